@@ -1,0 +1,4 @@
+pub mod Cases
+pub mod Glue
+pub mod Joined
+pub mod Long
