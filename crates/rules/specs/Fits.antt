@@ -50,8 +50,8 @@ fits ρ s (Value r) e (Has (Place b o)) = fitsPlace s r e b o
 
 -- ---- a store fits: each block has a tag of its row (25) and as many cells as that product has fields (25), and each cell fits `any,0,any` (26)
 
-abbrev pub shaped : Rows → Block → Bool
-shaped ρ K = ltb (K .tag) (prodsOf ρ (K .row)) && eqb (length (K .cells)) (fieldsOf ρ (K .row) (K .tag))
+abbrev pub rightShape : Rows → Block → Bool
+rightShape ρ K = ltb (K .tag) (prodsOf ρ (K .row)) && eqb (length (K .cells)) (fieldsOf ρ (K .row) (K .tag))
 
 -- the cells from o on of a block of row r and tag t
 unfoldable pub cellsFit : Rows → Store → ℕ → ℕ → ℕ → List Given → Bool
@@ -59,7 +59,7 @@ cellsFit ρ s r t o [] = true
 cellsFit ρ s r t o (g ∷ rest) = fits ρ s (Value (fieldOf ρ r t o)) loosest g && cellsFit ρ s r t (suc o) rest
 
 unfoldable pub blockNumber : Rows → Store → Block → ℕ
-blockNumber ρ s K = need 25 (shaped ρ K) (need 26 (cellsFit ρ s (K .row) (K .tag) 0 (K .cells)) 0)
+blockNumber ρ s K = need 25 (rightShape ρ K) (need 26 (cellsFit ρ s (K .row) (K .tag) 0 (K .cells)) 0)
 
 -- an argument fits its parameter as `any,0,any` (27); locals have none
 unfoldable pub argNumbers : Rows → Store → List Var → List Given → List ℕ

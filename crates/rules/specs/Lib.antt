@@ -24,3 +24,10 @@ pub mod StoreText
 pub mod StoreFill
 pub mod Store
 pub mod Run
+pub mod Stages
+pub mod Accepts
+pub mod Facts
+pub mod SoundExpr
+pub mod Keeps
+pub mod SoundLine
+pub mod SoundRun

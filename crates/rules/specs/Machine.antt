@@ -17,8 +17,11 @@ Store = List Block
 
 -- ---- the store's parts, by number
 
+abbrev pub noBlock : Block
+noBlock = record { row = 0; tag = 0; cells = [] }
+
 abbrev pub blockAt : Store → ℕ → Block
-blockAt s b = getD s b (record { row = 0; tag = 0; cells = [] })
+blockAt s b = getD s b noBlock
 
 unfoldable pub rowIn : Store → ℕ → ℕ
 rowIn s b = blockAt s b .row
@@ -36,40 +39,44 @@ inside s b o = ltb b (length s) && ltb o (cellsIn s b)
 unfoldable pub cellAt : Store → ℕ → ℕ → Given
 cellAt s b o = getD (blockAt s b .cells) o Stuck
 
--- ---- expressions
+-- ---- the kinds of data that a form needs; with any other, and with none, it is stuck
+
+abbrev pub needInt : {A : Type 0} → A → Given → (Num → A) → A
+needInt stuck Stuck go = stuck
+needInt stuck (Has (Int n)) go = go n
+needInt stuck (Has (Imm n)) go = stuck
+needInt stuck (Has (Place b o)) go = stuck
+
+abbrev pub needImm : {A : Type 0} → A → Given → (Num → A) → A
+needImm stuck Stuck go = stuck
+needImm stuck (Has (Int n)) go = stuck
+needImm stuck (Has (Imm n)) go = go n
+needImm stuck (Has (Place b o)) go = stuck
+
+abbrev pub needPlace : {A : Type 0} → A → Given → (ℕ → ℕ → A) → A
+needPlace stuck Stuck go = stuck
+needPlace stuck (Has (Int n)) go = stuck
+needPlace stuck (Has (Imm n)) go = stuck
+needPlace stuck (Has (Place b o)) go = go b o
+
+-- ---- expressions. Arithmetic, `val` and amounts need a C int; `int` an immediate; `fetch` and `step` a place
 
 unfoldable pub evVar : List Given → ℕ → Given
 evVar δ v = getD δ v Stuck
 
--- arithmetic needs a C int
 unfoldable pub evArith : Op → Given → Given → Given
-evArith o Stuck y = Stuck
-evArith o (Has (Imm a)) y = Stuck
-evArith o (Has (Place b i)) y = Stuck
-evArith o (Has (Int a)) Stuck = Stuck
-evArith o (Has (Int a)) (Has (Imm c)) = Stuck
-evArith o (Has (Int a)) (Has (Place b i)) = Stuck
-evArith o (Has (Int a)) (Has (Int c)) = Has (Int (arithOf o a c))
+evArith o x y = needInt Stuck x (λ a. needInt Stuck y (λ c. Has (Int (arithOf o a c))))
 
 -- `val` makes an immediate, `int` the reverse; `val` of a row that is absent is stuck
 unfoldable pub evVal : Rows → ℕ → Given → Given
-evVal ρ r Stuck = Stuck
-evVal ρ r (Has (Int a)) = need Stuck (rowThere ρ r) (Has (Imm a))
-evVal ρ r (Has (Imm a)) = Stuck
-evVal ρ r (Has (Place b i)) = Stuck
+evVal ρ r x = needInt Stuck x (λ n. need Stuck (rowThere ρ r) (Has (Imm n)))
 
 unfoldable pub evInt : Given → Given
-evInt Stuck = Stuck
-evInt (Has (Int a)) = Stuck
-evInt (Has (Imm a)) = Has (Int a)
-evInt (Has (Place b i)) = Stuck
+evInt x = needImm Stuck x (λ n. Has (Int n))
 
 -- `fetch` reads the cell at a place
 unfoldable pub evFetch : Store → Given → Given
-evFetch s Stuck = Stuck
-evFetch s (Has (Int a)) = Stuck
-evFetch s (Has (Imm a)) = Stuck
-evFetch s (Has (Place b o)) = need Stuck (inside s b o) (cellAt s b o)
+evFetch s x = needPlace Stuck x (λ b o. need Stuck (inside s b o) (cellAt s b o))
 
 -- `step` moves the offset by the amount, over whole numbers
 unfoldable pub moved : Store → ℕ → ℤ → Given
@@ -77,13 +84,7 @@ moved s b (pos o) = need Stuck (inside s b o) (Has (Place b o))
 moved s b (negsuc o) = Stuck
 
 unfoldable pub evStep : Store → Given → Given → Given
-evStep s Stuck y = Stuck
-evStep s (Has (Int a)) y = Stuck
-evStep s (Has (Imm a)) y = Stuck
-evStep s (Has (Place b o)) Stuck = Stuck
-evStep s (Has (Place b o)) (Has (Imm c)) = Stuck
-evStep s (Has (Place b o)) (Has (Place c i)) = Stuck
-evStep s (Has (Place b o)) (Has (Int m)) = moved s b (pos o +ℤ m .n)
+evStep s x y = needPlace Stuck x (λ b o. needInt Stuck y (λ m. moved s b (pos o +ℤ m .n)))
 
 unfoldable pub eval : Rows → Store → List Given → Expr → Given
 eval ρ s δ bad = Stuck
@@ -105,52 +106,39 @@ jumpIf false P l = D.Fall
 unfoldable pub jumpOn : Prog → ℕ → Bool → Act
 jumpOn P l c = need D.Stuck (labelThere P l) (jumpIf c P l)
 
+-- `set` and `return` take any
 unfoldable pub actSet : List Given → ℕ → Given → Act
 actSet δ v Stuck = D.Stuck
 actSet δ v (Has d) = need D.Stuck (ltb v (length δ)) (D.SetVar v d)
 
--- what `put` stores is an immediate or a place
-abbrev pub storeAt : Store → ℕ → ℤ → Datum → Act
-storeAt s b z (Int n) = D.Stuck
-storeAt s b (negsuc o) (Imm n) = D.Stuck
-storeAt s b (pos o) (Imm n) = need D.Stuck (inside s b o) (D.SetCell b o (Imm n))
-storeAt s b (negsuc o) (Place c i) = D.Stuck
-storeAt s b (pos o) (Place c i) = need D.Stuck (inside s b o) (D.SetCell b o (Place c i))
+-- `put` needs a place, moved as by `step`, and what it stores is an immediate or a place
+abbrev pub storeAt : ℕ → ℕ → Given → Act
+storeAt b o Stuck = D.Stuck
+storeAt b o (Has (Int n)) = D.Stuck
+storeAt b o (Has (Imm n)) = D.SetCell b o (Imm n)
+storeAt b o (Has (Place c i)) = D.SetCell b o (Place c i)
 
 unfoldable pub actPut : Store → Num → Given → Given → Act
-actPut s m Stuck y = D.Stuck
-actPut s m (Has (Int n)) y = D.Stuck
-actPut s m (Has (Imm n)) y = D.Stuck
-actPut s m (Has (Place b o)) Stuck = D.Stuck
-actPut s m (Has (Place b o)) (Has d) = storeAt s b (pos o +ℤ m .n) d
+actPut s m x y = needPlace D.Stuck x (λ b o. needPlace D.Stuck (moved s b (pos o +ℤ m .n)) (λ c i. storeAt c i y))
 
--- `if` jumps on any number but 0
+-- `if` needs a C int and jumps on any number but 0
 unfoldable pub actIf : Prog → ℕ → Given → Act
-actIf P l Stuck = D.Stuck
-actIf P l (Has (Int n)) = jumpOn P l (not (sameNum n zeroN))
-actIf P l (Has (Imm n)) = D.Stuck
-actIf P l (Has (Place b o)) = D.Stuck
+actIf P l x = needInt D.Stuck x (λ n. jumpOn P l (not (sameNum n zeroN)))
 
--- `ifimm` on an immediate
+-- `ifimm` needs an immediate or a place and jumps on an immediate
 unfoldable pub actIfimm : Prog → ℕ → Given → Act
 actIfimm P l Stuck = D.Stuck
 actIfimm P l (Has (Int n)) = D.Stuck
 actIfimm P l (Has (Imm n)) = jumpOn P l true
 actIfimm P l (Has (Place b o)) = jumpOn P l false
 
--- `iftag` on the tag named; stuck at a place not at offset 0
+-- `iftag` needs a place at offset 0 and jumps on the tag named
 unfoldable pub actIftag : Prog → Store → ℕ → Num → Given → Act
-actIftag P s l n Stuck = D.Stuck
-actIftag P s l n (Has (Int m)) = D.Stuck
-actIftag P s l n (Has (Imm m)) = D.Stuck
-actIftag P s l n (Has (Place b o)) = need D.Stuck (eqb o 0 && ltb b (length s)) (jumpOn P l (eqZ (pos (tagIn s b)) (n .n)))
+actIftag P s l n x = needPlace D.Stuck x (λ b o. need D.Stuck (eqb o 0 && ltb b (length s)) (jumpOn P l (eqZ (pos (tagIn s b)) (n .n))))
 
--- `ifint` on the immediate named
+-- `ifint` needs an immediate and jumps on the one named
 unfoldable pub actIfint : Prog → ℕ → Num → Given → Act
-actIfint P l n Stuck = D.Stuck
-actIfint P l n (Has (Int m)) = D.Stuck
-actIfint P l n (Has (Imm m)) = jumpOn P l (sameNum m n)
-actIfint P l n (Has (Place b o)) = D.Stuck
+actIfint P l n x = needImm D.Stuck x (λ m. jumpOn P l (sameNum m n))
 
 abbrev pub actReturn : Given → Act
 actReturn Stuck = D.Stuck
