@@ -26,8 +26,11 @@ pub mod Store
 pub mod Run
 pub mod Stages
 pub mod Accepts
+pub mod Lists
 pub mod Facts
 pub mod SoundExpr
 pub mod Keeps
 pub mod SoundLine
 pub mod SoundRun
+pub mod Small
+pub mod StepTables
