@@ -137,7 +137,7 @@ block-facts ρ s K h =
     let f = need-exactly 25 (rightShape ρ K) (need 26 (cellsFit ρ s (K .row) (K .tag) 0 (K .cells)) 0) (omega lin) .0 h in
     (f .0, need-exactly 26 (cellsFit ρ s (K .row) (K .tag) 0 (K .cells)) 0 (omega lin) .0 (f .1) .0)
 
-each-at : {A : Type 0} (p : A → Type 0) (l : List A) (z : A) → Each p l → (i : ℕ) → i < length l → p (getD l i z)
+pub each-at : {A : Type 0} (p : A → Type 0) (l : List A) (z : A) → Each p l → (i : ℕ) → i < length l → p (getD l i z)
 each-at p [] z h i k = absurd (omega lin)
 each-at p (a ∷ l) z h zero k = h .0
 each-at p (a ∷ l) z h (suc i) k = each-at p l z (h .1) i (omega lin)

@@ -34,3 +34,4 @@ pub mod SoundLine
 pub mod SoundRun
 pub mod Small
 pub mod StepTables
+pub mod Starts

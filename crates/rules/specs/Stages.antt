@@ -91,3 +91,7 @@ then-exactly a later p = (by-when (λ x. x ≡ accepted → (a ≡ accepted) × 
 
 pub then-plain : (a : Answer) (later : One → Answer) → Plain a → Plain (later tt) → Plain (andThen a later)
 then-plain a later p q = by-when Plain (passes a) _ _ (λ z. q) (λ z. p)
+
+-- what comes after a stage, whatever that stage's line
+pub then-later : (a : Answer) (later : One → Answer) → andThen a later ≡ accepted → later tt ≡ accepted
+then-later a later = by-when (λ x. x ≡ accepted → later tt ≡ accepted) (passes a) _ _ (λ z h. h) (λ z h. absurd (eqb-false (a .number) 0 z (ap (λ (x : Answer). x .number) h)))

@@ -343,11 +343,11 @@ vals-small : (n : ℕ) (W : List ℕ) (v : ℕ) → Small (getD (valsOf n W) v S
 unfolding valsOf
 vals-small n W v = tab-all Small n _ Stuck tt (λ i. datum-small (getD W i 0)) v
 
-vals-length : (n : ℕ) (W : List ℕ) → length (valsOf n W) ≡ n
+pub vals-length : (n : ℕ) (W : List ℕ) → length (valsOf n W) ≡ n
 unfolding valsOf
 vals-length n W = tab-length n _
 
-vars-most : (T : Tables) → length (program T .vars) ≤ limits .variables
+pub vars-most : (T : Tables) → length (program T .vars) ≤ limits .variables
 unfolding program
 vars-most T = rw (tab-length (upTo (limits .variables) (getD (T .size) 2 0))) (upTo-le (limits .variables) (getD (T .size) 2 0))
 
