@@ -72,10 +72,15 @@ unfoldable pub coversFirst : ℕ → List Entry → List Entry → Bool
 coversFirst zero ls hs = true
 coversFirst (suc n) ls hs = coversFirst n ls hs && coversEntry (getD ls n noEntry) (getD hs n noEntry)
 
+-- an environment covers another over as many variables
+unfoldable pub coversEnv : Env → Env → Bool
+coversEnv Δ Γ = coversFirst (Γ .count) (Δ .entries) (Γ .entries)
+
+-- a label covers an environment
 unfoldable pub covers : List Label → ℕ → Env → Bool
-covers L l Γ = coversFirst (Γ .count) (labelAt L l .entries) (Γ .entries)
+covers L l Γ = coversEnv (record { entries = labelAt L l .entries; count = Γ .count }) Γ
 
 -- to compute with what stands here
 unfoldable pub environments : One
-unfolding withEntry labelEnv startAt startEnv coversBoxed coversOffset coversTag coversEntry coversFirst covers
+unfolding withEntry labelEnv startAt startEnv coversBoxed coversOffset coversTag coversEntry coversFirst coversEnv covers
 environments = tt

@@ -1,5 +1,5 @@
 -- Fitting as facts that proofs carry, and that the tests of Fits tell them. Assumes nothing.
-use lib.Dec.{T, ltb→lt, eqb→eq}
+use lib.Dec.{eqb-refl, lt→ltb, T, ltb→lt, eqb→eq}
 use native.Mathlib.Omega.{arith as lin}
 use Rattle.rules.specs.Prelude.{ℕ, zero, suc, _+_, _<_, _≤_, _&&_, List, [], _∷_, _≡_, sym, ap, _∙_, ltb, eqb, ℤ, pos, negsuc, length, getD, Num, Boxed, Offset, Tag, Entry, Env, Kind, Cint, Value, Int, Imm, Place, Given, Stuck, Has}
 use Rattle.rules.specs.Prelude.B
@@ -7,11 +7,11 @@ use Rattle.rules.specs.Prelude.I
 use Rattle.rules.specs.Prelude.G
 use Rattle.rules.specs.Prelude.D
 use Rattle.rules.specs.When.{need}
-use Rattle.rules.specs.Numbers.{num, zeroN, eqZ, sameNum, suits}
+use Rattle.rules.specs.Numbers.{zeroN, num, eqZ, sameNum, suits}
 use Rattle.rules.specs.Program.{Rows, Var, loosest, noEntry, isZero, psiOf, prodsOf, fieldsOf, fieldOf, kindAt, agree}
-use Rattle.rules.specs.Machine.{noBlock, Block, blockAt, cellAt, Store, rowIn, tagIn, cellsIn, inside}
+use Rattle.rules.specs.Machine.{inside, noBlock, Block, blockAt, cellAt, Store, rowIn, tagIn, cellsIn}
 use Rattle.rules.specs.Fits.{rightShape, cellsFit, blockNumber, fits, fitsImm, fitsPlace, offsetIs, tagIs, notBox, notImm}
-use Rattle.rules.specs.Stages.{and-both, need-exactly, Each}
+use Rattle.rules.specs.Stages.{and-held, and-both, need-exactly, Each}
 
 -- ---- fitting
 
@@ -117,6 +117,45 @@ fits→ ρ s (Value r) e (Has (Place b o)) h =
     let x = and-both (tagIs (e .tag) (num (pos (tagIn s b)))) (inside s b o) (w .1) in
     let y = and-both (ltb b (length s)) (ltb o (cellsIn s b)) (x .1) in
     record { loose = points (e .boxed) (u .0); there = ltb→lt b (length s) (y .0); row = eqb→eq (rowIn s b) r (v .0); offset = offset-agrees (e .offset) (num (pos o)) (w .0); tag = tag-agrees (e .tag) (num (pos (tagIn s b))) (x .0); inside = ltb→lt o (cellsIn s b) (y .1) }
+
+-- ---- and the facts pass the test
+
+sits-back : (b : Boxed) → MaySit b → T (notBox b)
+sits-back B.Either h = tt
+sits-back B.Imm h = tt
+
+points-back : (b : Boxed) → MayPoint b → T (notImm b)
+points-back B.Either h = tt
+points-back B.Block h = tt
+
+pub same-refl : (a : Num) → T (sameNum a a)
+same-refl a = go (a .n)
+  where
+    go : (z : ℤ) → T (eqZ z z)
+    go (pos n) = eqb-refl n
+    go (negsuc n) = eqb-refl n
+
+offset-back : (i : Offset) (n : Num) → AgreesI i n → T (offsetIs i n)
+offset-back I.Unknown n h = tt
+offset-back (I.Known m) n h = rw h (same-refl n)
+
+tag-back : (t : Tag) (n : Num) → AgreesT t n → T (tagIs t n)
+tag-back G.Unknown n h = tt
+tag-back (G.Known m) n h = rw h (same-refl n)
+
+pub →fits : (ρ : Rows) (s : Store) (k : Kind) (e : Entry) (g : Given) → Fits ρ s k e g → T (fits ρ s k e g)
+unfolding fits fitsImm fitsPlace
+→fits ρ s Cint e (Has (Int n)) h = tag-back (e .tag) n h
+→fits ρ s (Value r) e (Has (Imm n)) h =
+    and-held (notBox (e .boxed)) _ (sits-back (e .boxed) (h .loose))
+    (and-held (offsetIs (e .offset) zeroN) _ (offset-back (e .offset) zeroN (h .still))
+    (and-held (tagIs (e .tag) n) (suits (psiOf ρ r) n) (tag-back (e .tag) n (h .named)) (h .suited)))
+→fits ρ s (Value r) e (Has (Place b o)) h =
+    and-held (notImm (e .boxed)) _ (points-back (e .boxed) (h .loose))
+    (and-held (agree (rowIn s b) r) _ (rw (h .row) (eqb-refl r))
+    (and-held (offsetIs (e .offset) (num (pos o))) _ (offset-back (e .offset) (num (pos o)) (h .offset))
+    (and-held (tagIs (e .tag) (num (pos (tagIn s b)))) (inside s b o) (tag-back (e .tag) (num (pos (tagIn s b))) (h .tag))
+    (and-held (ltb b (length s)) (ltb o (cellsIn s b)) (lt→ltb b (length s) (h .there)) (lt→ltb o (cellsIn s b) (h .inside))))))
 
 -- ---- a store that passes is sound
 

@@ -35,3 +35,9 @@ pub mod SoundRun
 pub mod Small
 pub mod StepTables
 pub mod Starts
+pub mod Wrong
+pub mod Steps
+pub mod Absent
+pub mod Covering
+pub mod SoundTexts
+pub mod Demands

@@ -17,7 +17,7 @@ use Rattle.rules.specs.Limits.{limits}
 use Rattle.rules.specs.Program.{labelThere, varThere, Rows, Stmt, badS, setS, putS, gotoS, ifS, ifimmS, iftagS, ifintS, returnS, labelS, Prog, labelAt, sameKind, loosest, noEntry, isZero, psiOf, prodsOf, fieldOf, kindAt, isLabel}
 use Rattle.rules.specs.Names.{exprThere, stmtThere}
 use Rattle.rules.specs.Typing.{tyVar, addressOf, type}
-use Rattle.rules.specs.Environments.{withEntry, withBoxed, withTag, labelEnv, coversBoxed, coversOffset, coversTag, coversEntry, coversFirst, covers}
+use Rattle.rules.specs.Environments.{coversEnv, withEntry, withBoxed, withTag, labelEnv, coversBoxed, coversOffset, coversTag, coversEntry, coversFirst, covers}
 use Rattle.rules.specs.Body.{putAt, goes, refuse, jump, isBox, isImm, ruleSet, rulePut, ruleGoto, ruleIf, ruleIfimm, ruleIftag, ruleIfint, ruleReturn, ruleLabel, lineOf}
 use Rattle.rules.specs.Machine.{jumpIf, storeAt, moved, jumpOn, rowIn, actIf, Store, tagIn, cellsIn, inside, evVar, eval, actSet, actPut, actIfimm, actIftag, actIfint, actReturn, act, setCell}
 use Rattle.rules.specs.Stages.{held, and-both}
@@ -158,7 +158,7 @@ module _ (P : Prog) (Z : Sized P) (Γ : Env) (s : Store) (δ : List Given) (W : 
 
 -- what covers a label fits it
 pub covers-good : (P : Prog) → Sized P → (l : ℕ) → l < length (P .labels) → (Δ : Env) (δ : List Given) (s : Store) → T (covers (P .labels) l Δ) → Good P Δ δ s → Good P (labelEnv P l) δ s
-unfolding covers labelEnv
+unfolding covers coversEnv labelEnv
 covers-good P Z l k Δ δ s h g =
     let a : length (labelAt (P .labels) l .entries) ≡ limits .variables = Z .labels l k in
     let b : length (P .vars) ≤ limits .variables = Z .vars in
