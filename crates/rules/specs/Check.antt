@@ -3,7 +3,7 @@ use Rattle.rules.specs.Prelude.{ℕ, List, Answer}
 use Rattle.rules.specs.When.{One, when}
 use Rattle.rules.specs.Numbers.{numbers}
 use Rattle.rules.specs.Answers.{andThen, passes}
-use Rattle.rules.specs.Tables.{Tables, zeros}
+use Rattle.rules.specs.Text.Layout.{Tables, zeros}
 use Rattle.rules.specs.Text.{TextOut, readText, texts}
 use Rattle.rules.specs.Program.{Prog}
 use Rattle.rules.specs.View.{program, views}

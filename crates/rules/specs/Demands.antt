@@ -4,12 +4,12 @@ use Rattle.rules.specs.Answers.{accepted}
 use Rattle.rules.specs.Program.{Prog}
 use Rattle.rules.specs.View.{program}
 use Rattle.rules.specs.Check.{checked, verdict}
+use Rattle.rules.specs.Machine.Tables.{machine, runT}
 use Rattle.rules.specs.Machine.{Machine}
-use Rattle.rules.specs.MachineTables.{machine, runT}
 use Rattle.rules.specs.Store.{readStore}
 use Rattle.rules.specs.Run.{start}
 use Rattle.rules.specs.Wrong.{NotWrong}
-use Rattle.rules.specs.SoundTexts.{passed-never-wrong, accepted-check}
+use Rattle.rules.specs.Sound.Texts.{passed-never-wrong, accepted-check}
 
 -- the program that a glue text is read as
 abbrev pub programOf : List ℕ → Prog

@@ -1,4 +1,5 @@
 -- The machine: a datum, a block, what an expression gives, what a line does, steps and runs. Assumes nothing.
+pub mod Tables
 use Rattle.rules.specs.Prelude.{ℕ, zero, suc, _+_, Bool, true, false, not, _&&_, List, [], ltb, eqb, ℤ, pos, negsuc, _+ℤ_, length, getD, set, Num, Op, Datum, Int, Imm, Place, Given, Stuck, Has, Act, Stepped}
 use Rattle.rules.specs.Prelude.D
 use Rattle.rules.specs.Prelude.S

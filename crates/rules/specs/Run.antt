@@ -4,12 +4,12 @@ use Rattle.rules.specs.Prelude.Q
 use Rattle.rules.specs.When.{One, when}
 use Rattle.rules.specs.Bytes.{bytes}
 use Rattle.rules.specs.Answers.{accepted, passes}
-use Rattle.rules.specs.Words.{agreed}
+use Rattle.rules.specs.Text.Words.{agreed}
 use Rattle.rules.specs.Program.{Prog}
 use Rattle.rules.specs.View.{program}
 use Rattle.rules.specs.Check.{Checked, checked, verdict, checks}
-use Rattle.rules.specs.MachineTables.{MTables, datumCode, runT}
-use Rattle.rules.specs.StoreFill.{StoreTables}
+use Rattle.rules.specs.Machine.Tables.{MTables, datumCode, runT}
+use Rattle.rules.specs.Store.Fill.{StoreTables}
 use Rattle.rules.specs.Store.{StoreOut, readStore, stores}
 
 -- the first line starting `run=`: how many bytes come before it (all, if there is none); `fresh` where a line begins

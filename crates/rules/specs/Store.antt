@@ -1,13 +1,15 @@
 -- The store text beside a program that was read: 21; 22 and 23; 24; 25 to 27; with the store's tables, zero on a refusal. Assumes nothing.
+pub mod Text
+pub mod Fill
 use Rattle.rules.specs.Prelude.{ℕ, suc, _+_, List, [], _∷_, _++_, map, ltb, length, Answer}
 use Rattle.rules.specs.When.{One, when}
 use Rattle.rules.specs.Limits.{limits}
 use Rattle.rules.specs.Answers.{answer, andThen, passes, first, answers}
 use Rattle.rules.specs.Program.{Var, Prog}
-use Rattle.rules.specs.MachineTables.{storeOf, valsOf, machineTables}
+use Rattle.rules.specs.Machine.Tables.{storeOf, valsOf, machineTables}
 use Rattle.rules.specs.Fits.{blockNumber, argNumbers, fitting}
-use Rattle.rules.specs.StoreText.{Counted, countedOut, storeLines, mostStoreLines, noStore}
-use Rattle.rules.specs.StoreFill.{StoreTables, noStoreTables, fillStore, storeNames, storeFills}
+use Rattle.rules.specs.Store.Text.{Counted, countedOut, storeLines, mostStoreLines, noStore}
+use Rattle.rules.specs.Store.Fill.{StoreTables, noStoreTables, fillStore, storeNames, storeFills}
 
 -- 25 to 27 over what was written: each block line, then each argument line
 unfoldable pub storeFits : Prog → StoreTables → Answer

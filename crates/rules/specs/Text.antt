@@ -1,13 +1,17 @@
 -- The glue text, whole: 1; then 2 and 3 line by line, 2 first; with the tables. Assumes nothing.
+pub mod Words
+pub mod Shape
+pub mod Layout
+pub mod Fill
 use Rattle.rules.specs.Prelude.{ℕ, zero, suc, _+_, true, false, List, ltb, eqb, length, Answer, Reading, Got, Bad, Next, Count}
 use Rattle.rules.specs.Prelude.N
 use Rattle.rules.specs.When.{One, when}
 use Rattle.rules.specs.Limits.{limits}
 use Rattle.rules.specs.Answers.{answer, accepted}
-use Rattle.rules.specs.Words.{byteAt}
-use Rattle.rules.specs.Shape.{keyAt, keyOf, partOf, inOrder, lineShape}
-use Rattle.rules.specs.Tables.{tables, inPart, Tables, zeros, sized, nothing}
-use Rattle.rules.specs.Fill.{fills, Filled, filled, fillLine}
+use Rattle.rules.specs.Text.Words.{byteAt}
+use Rattle.rules.specs.Text.Shape.{keyAt, keyOf, partOf, inOrder, lineShape}
+use Rattle.rules.specs.Text.Layout.{tables, inPart, Tables, zeros, sized, nothing}
+use Rattle.rules.specs.Text.Fill.{fills, Filled, filled, fillLine}
 
 -- a line: its answer (0 goes on), the byte after it, counts and tables
 pub data Lined : Type 0 where

@@ -37,10 +37,9 @@ tyArith o (Ok k e) (Ok l d) = arithKinds o k e l d
 
 -- ---- val R E: E int (6); its T known and suits, or `any` with PSI `inf` (9). Result row R, `imm,0,T`
 abbrev pub suitsTag : Psi → Tag → Bool
+suitsTag ψ (G.Known n) = suits ψ n
 suitsTag Inf G.Unknown = true
 suitsTag (Upto p) G.Unknown = false
-suitsTag Inf (G.Known n) = suits Inf n
-suitsTag (Upto p) (G.Known n) = suits (Upto p) n
 
 abbrev pub valOf : Psi → ℕ → Tag → Judged
 valOf ψ r t = need (No 9) (suitsTag ψ t) (Ok (Value r) (immEntry t))

@@ -7,7 +7,7 @@ use Rattle.rules.specs.Prelude.O
 use Rattle.rules.specs.When.{One, when}
 use Rattle.rules.specs.Numbers.{numCode}
 use Rattle.rules.specs.Limits.{limits}
-use Rattle.rules.specs.Tables.{rowWidth, varWidth, labelWidth, lineWidth, cell, Tables}
+use Rattle.rules.specs.Text.Layout.{rowWidth, varWidth, labelWidth, lineWidth, cell, Tables}
 use Rattle.rules.specs.Program.{parts, Row, Var, Expr, bad, lit, var, arith, val, int, fetch, step, Stmt, badS, setS, putS, gotoS, ifS, ifimmS, iftagS, ifintS, returnS, labelS, Label, Prog, entry}
 
 -- f 0, f 1, .., n of them

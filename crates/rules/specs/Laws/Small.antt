@@ -11,7 +11,7 @@ use Rattle.rules.specs.Prelude.{ℕ, _+_, _-_, _/_, _%_, _<_, Bool, true
 use Rattle.rules.specs.Prelude.O
 use Rattle.rules.specs.When.{when}
 use Rattle.rules.specs.Numbers.{sameNum, num, numCode, wordOf, low32, wrap32, oneIf, arithOf}
-use Rattle.rules.specs.MachineTables.{datumCode, codeOf}
+use Rattle.rules.specs.Machine.Tables.{datumCode, codeOf}
 
 -- a signed 32-bit number
 abbrev pub SmallN : Num → Type 0

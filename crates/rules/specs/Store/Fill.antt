@@ -3,10 +3,10 @@ use Rattle.rules.specs.Prelude.{ℕ, zero, suc, _+_, _*_, Bool, true, fa
 use Rattle.rules.specs.When.{One, need, when}
 use Rattle.rules.specs.Limits.{limits}
 use Rattle.rules.specs.Answers.{first}
-use Rattle.rules.specs.Words.{valueOf, nextOf, plainAt, numberAt}
+use Rattle.rules.specs.Text.Words.{valueOf, nextOf, plainAt, numberAt}
 use Rattle.rules.specs.Program.{Rows, Var, rowThere}
-use Rattle.rules.specs.MachineTables.{codeOf, headWidth, blockWidth}
-use Rattle.rules.specs.StoreText.{storeTexts, cellWord, argWord, blockWords}
+use Rattle.rules.specs.Machine.Tables.{codeOf, headWidth, blockWidth}
+use Rattle.rules.specs.Store.Text.{storeTexts, cellWord, argWord, blockWords}
 
 -- ---- places in the text
 

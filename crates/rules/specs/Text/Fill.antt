@@ -3,9 +3,9 @@ use Rattle.rules.specs.Prelude.{ℕ, zero, suc, _+_, _*_, Bool, true, fa
 use Rattle.rules.specs.Prelude.F
 use Rattle.rules.specs.When.{One, when}
 use Rattle.rules.specs.Limits.{limits}
-use Rattle.rules.specs.Words.{byteAt, valueOf, nextOf, plainAt, numberAt, varAt, arity, headAt}
-use Rattle.rules.specs.Shape.{shapes, kindWord, psiAt, boxedAt, offsetAt, tagAt, Key, noKey, retK, typeK, paramK, localK, setK, putK, gotoK, ifK, ifimmK, iftagK, ifintK, returnK, labelK}
-use Rattle.rules.specs.Tables.{withNodes, withRows, withVars, withLabels, withBody, withRet, oneRow, oneVar, oneLabel, oneLine, Tables, rowWidth, varWidth, labelWidth, lineWidth}
+use Rattle.rules.specs.Text.Words.{byteAt, valueOf, nextOf, plainAt, numberAt, varAt, arity, headAt}
+use Rattle.rules.specs.Text.Shape.{shapes, kindWord, psiAt, boxedAt, offsetAt, tagAt, Key, noKey, retK, typeK, paramK, localK, setK, putK, gotoK, ifK, ifimmK, iftagK, ifintK, returnK, labelK}
+use Rattle.rules.specs.Text.Layout.{withNodes, withRows, withVars, withLabels, withBody, withRet, oneRow, oneVar, oneLabel, oneLine, Tables, rowWidth, varWidth, labelWidth, lineWidth}
 
 -- within the limits, or not; with the counts and the tables after it
 pub data Filled : Type 0 where

@@ -8,14 +8,14 @@ use Rattle.rules.specs.Prelude.D
 use Rattle.rules.specs.When.{when}
 use Rattle.rules.specs.Numbers.{eqZ, zeroN, sameNum}
 use Rattle.rules.specs.Limits.{limits}
-use Rattle.rules.specs.Tables.{Tables, cell}
+use Rattle.rules.specs.Text.Layout.{Tables, cell}
 use Rattle.rules.specs.Program.{Rows, rowThere, Expr, bad, lit, var, arith, val, int, fetch, step, Stmt, badS, setS, putS, gotoS, ifS, ifimmS, iftagS, ifintS, returnS, labelS, labelThere, Prog}
 use Rattle.rules.specs.View.{formOf, Walked, walked, one, two, treeNode, treeAt, Form, none, litF, varF, fetchF, intF, valF, stepF, calc, withOne, withTwo, treeOf, Way, noW, setW, putW, gotoW, ifW, ifimmW, iftagW, ifintW, returnW, labelW, stmtOf, stmtFrom, program, tab, upTo}
+use Rattle.rules.specs.Machine.Tables.{blockWidth, headWidth, runT, datumCode, codeOf, MTables, blockFrom, storeOf, valsOf, machine, applyT, stepFromT, stepT}
 use Rattle.rules.specs.Machine.{tagIn, evArith, evVal, evInt, evFetch, evStep, needPlace, noBlock, evVar, moved, eval, jumpIf, jumpOn, storeAt, actSet, actPut, actIf, actIfimm, actIftag, actIfint, actReturn, act, inside, cellsIn, cellAt, runOf, Store, decide, setCell, apply, stepFrom, stepOf}
-use Rattle.rules.specs.MachineTables.{blockWidth, headWidth, runT, datumCode, codeOf, MTables, blockFrom, storeOf, valsOf, machine, applyT, stepFromT, stepT}
-use Rattle.rules.specs.Stages.{by-need, and-both}
-use Rattle.rules.specs.Lists.{tab-all, tab-length, tab-in, tab-ext, tab-set, upTo-le}
-use Rattle.rules.specs.Small.{Small, SmallN, datum-small, datum-again, arith-small, word-is-small}
+use Rattle.rules.specs.Laws.Tests.{by-need, and-both}
+use Rattle.rules.specs.Laws.Lists.{tab-all, tab-length, tab-in, tab-ext, tab-set, upTo-le}
+use Rattle.rules.specs.Laws.Small.{Small, SmallN, datum-small, datum-again, arith-small, word-is-small}
 
 vals-set : (n : ℕ) (W : List ℕ) (v c : ℕ) (g : Given) → v < length W → datumCode c ≡ g → valsOf n (set W v c) ≡ set (valsOf n W) v g
 unfolding valsOf

@@ -15,10 +15,11 @@ use Rattle.rules.specs.Body.{refuse, goes, isEnd, lastOf, lastLine, body
 use Rattle.rules.specs.Check.{check}
 use Rattle.rules.specs.Machine.{Store, act, setCell, decide, Machine, apply, stepFrom, stepOf, runOf}
 use Rattle.rules.specs.Fits.{unreached, entered, Entered, hereEnv, envFrom, envAt}
-use Rattle.rules.specs.Stages.{by-need, Each, Zero, and-both, each-append, each-map, first-exactly, need-exactly}
-use Rattle.rules.specs.Accepts.{check-exactly}
-use Rattle.rules.specs.Facts.{Fits}
-use Rattle.rules.specs.SoundLine.{jump-is, Promises, Good, Sized, Reaches, After, covers-good, line-sound}
+use Rattle.rules.specs.Laws.Tests.{by-need, and-both}
+use Rattle.rules.specs.Laws.Stages.{Each, Zero, each-append, each-map, first-exactly, need-exactly}
+use Rattle.rules.specs.Laws.Accepts.{check-exactly}
+use Rattle.rules.specs.Sound.Facts.{Fits}
+use Rattle.rules.specs.Sound.Line.{jump-is, Promises, Good, Sized, Reaches, After, covers-good, line-sound}
 
 abbrev pub GoodAt : Prog → Entered → List Given → Store → Type 0
 GoodAt P unreached δ s = ⊥

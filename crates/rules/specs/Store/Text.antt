@@ -4,7 +4,7 @@ use Rattle.rules.specs.When.{One, when}
 use Rattle.rules.specs.Bytes.{bytes}
 use Rattle.rules.specs.Limits.{limits}
 use Rattle.rules.specs.Answers.{accepted, answer}
-use Rattle.rules.specs.Words.{words, byteAt, plainAt, numberAt, orWord}
+use Rattle.rules.specs.Text.Words.{words, byteAt, plainAt, numberAt, orWord}
 
 -- ---- data: `cN`, `iN`, `bK` as they stand in a table (a place has offset 0)
 

@@ -1,17 +1,18 @@
 -- Fitting as facts that proofs carry, and that the tests of Fits tell them. Assumes nothing.
 use lib.Dec.{eqb-refl, lt→ltb, T, ltb→lt, eqb→eq}
 use native.Mathlib.Omega.{arith as lin}
-use Rattle.rules.specs.Prelude.{ℕ, zero, suc, _+_, _<_, _≤_, _&&_, List, [], _∷_, _≡_, sym, ap, _∙_, ltb, eqb, ℤ, pos, negsuc, length, getD, Num, Boxed, Offset, Tag, Entry, Env, Kind, Cint, Value, Int, Imm, Place, Given, Stuck, Has}
+use Rattle.rules.specs.Prelude.{ℕ, zero, suc, _+_, _<_, _≤_, _&&_, List, [], _∷_, _≡_, sym, ap, _∙_, ltb, eqb, pos, length, getD, Num, Boxed, Offset, Tag, Entry, Env, Kind, Cint, Value, Int, Imm, Place, Given, Stuck, Has}
 use Rattle.rules.specs.Prelude.B
 use Rattle.rules.specs.Prelude.I
 use Rattle.rules.specs.Prelude.G
 use Rattle.rules.specs.Prelude.D
 use Rattle.rules.specs.When.{need}
-use Rattle.rules.specs.Numbers.{zeroN, num, eqZ, sameNum, suits}
+use Rattle.rules.specs.Numbers.{zeroN, num, suits}
 use Rattle.rules.specs.Program.{Rows, Var, loosest, noEntry, isZero, psiOf, prodsOf, fieldsOf, fieldOf, kindAt, agree}
 use Rattle.rules.specs.Machine.{inside, noBlock, Block, blockAt, cellAt, Store, rowIn, tagIn, cellsIn}
 use Rattle.rules.specs.Fits.{rightShape, cellsFit, blockNumber, fits, fitsImm, fitsPlace, offsetIs, tagIs, notBox, notImm}
-use Rattle.rules.specs.Stages.{and-held, and-both, need-exactly, Each}
+use Rattle.rules.specs.Laws.Tests.{same-refl, same→eq, and-held, and-both}
+use Rattle.rules.specs.Laws.Stages.{need-exactly, Each}
 
 -- ---- fitting
 
@@ -71,13 +72,6 @@ pub record FitsAll (ρ : Rows) (s : Store) (D : List Var) (Γ : Env) (δ : List 
 
 -- ---- small facts
 
-pub eqZ→eq : (a b : ℤ) → T (eqZ a b) → a ≡ b
-eqZ→eq (pos a) (pos b) h = ap pos (eqb→eq a b h)
-eqZ→eq (negsuc a) (negsuc b) h = ap negsuc (eqb→eq a b h)
-
-pub same→eq : (a b : Num) → T (sameNum a b) → a ≡ b
-same→eq a b h = ap num (eqZ→eq (a .n) (b .n) h)
-
 pub pos-of : (n : ℕ) (m : ℕ) → num (pos n) ≡ num (pos m) → n ≡ m
 pos-of n m e = let q : pos n ≡ pos m = ap (λ (x : Num). x .n) e in cc
 
@@ -127,13 +121,6 @@ sits-back B.Imm h = tt
 points-back : (b : Boxed) → MayPoint b → T (notImm b)
 points-back B.Either h = tt
 points-back B.Block h = tt
-
-pub same-refl : (a : Num) → T (sameNum a a)
-same-refl a = go (a .n)
-  where
-    go : (z : ℤ) → T (eqZ z z)
-    go (pos n) = eqb-refl n
-    go (negsuc n) = eqb-refl n
 
 offset-back : (i : Offset) (n : Num) → AgreesI i n → T (offsetIs i n)
 offset-back I.Unknown n h = tt

@@ -5,8 +5,8 @@ use Rattle.rules.specs.Prelude.D
 use Rattle.rules.specs.Prelude.S
 use Rattle.rules.specs.Program.{Prog}
 use Rattle.rules.specs.Machine.{Store, decide, Machine, apply, stepFrom, stepOf, runOf, saysAct, saysFrom, says}
-use Rattle.rules.specs.Keeps.{row-keeps, tag-keeps, len-keeps, count-keeps}
 use Rattle.rules.specs.Wrong.{SameBlocks}
+use Rattle.rules.specs.Sound.Keeps.{row-keeps, tag-keeps, len-keeps, count-keeps}
 
 -- ---- what a step says of itself
 

@@ -9,27 +9,28 @@ use Rattle.rules.specs.When.{when, need}
 use Rattle.rules.specs.Numbers.{suits}
 use Rattle.rules.specs.Limits.{limits}
 use Rattle.rules.specs.Answers.{accepted}
-use Rattle.rules.specs.Words.{valueOf}
-use Rattle.rules.specs.Tables.{Tables}
+use Rattle.rules.specs.Text.Words.{valueOf}
+use Rattle.rules.specs.Text.Layout.{Tables}
 use Rattle.rules.specs.Program.{labelAt, Prog, Var, Rows, psiOf, kindAt, loosest, noEntry}
 use Rattle.rules.specs.View.{upTo, labelFrom, program, varFrom}
 use Rattle.rules.specs.Environments.{localEntry, startEntry, noVar, startAt, startEnv}
 use Rattle.rules.specs.Body.{localOk, localLine}
 use Rattle.rules.specs.Check.{check}
+use Rattle.rules.specs.Machine.Tables.{codeOf, datumCode, storeOf, valsOf, blockWidth}
 use Rattle.rules.specs.Machine.{Store}
-use Rattle.rules.specs.MachineTables.{codeOf, datumCode, storeOf, valsOf, blockWidth}
 use Rattle.rules.specs.Fits.{fits, blockNumber, argNumbers}
-use Rattle.rules.specs.StoreText.{argWord, Counted, countedOut, storeLines, mostStoreLines, noStore}
-use Rattle.rules.specs.StoreFill.{afterArg, StoreTables, noStoreTables, localDatum, fillCells, fillVals, fillBlocks, fillStore, nextLine, storeNames}
+use Rattle.rules.specs.Store.Text.{argWord, Counted, countedOut, storeLines, mostStoreLines, noStore}
+use Rattle.rules.specs.Store.Fill.{afterArg, StoreTables, noStoreTables, localDatum, fillCells, fillVals, fillBlocks, fillStore, nextLine, storeNames}
 use Rattle.rules.specs.Store.{storeFits, judged, readStore, paramsOf, StoreOut}
 use Rattle.rules.specs.Run.{start}
-use Rattle.rules.specs.Stages.{by-when, Each, Zero, each-append, each-map, first-exactly, need-exactly, then-later}
-use Rattle.rules.specs.Lists.{tab-in, tab-all, tab-length}
-use Rattle.rules.specs.Facts.{Fits, fits→, store-sound, each-at}
-use Rattle.rules.specs.SoundLine.{Sized, Good}
-use Rattle.rules.specs.SoundRun.{locals-zero}
-use Rattle.rules.specs.Small.{Small, SmallN, word-is-small, datum-again}
-use Rattle.rules.specs.StepTables.{Roomy, vals-length, vars-most}
+use Rattle.rules.specs.Laws.Tests.{by-when}
+use Rattle.rules.specs.Laws.Stages.{Each, Zero, each-append, each-map, first-exactly, need-exactly, then-later}
+use Rattle.rules.specs.Laws.Lists.{tab-in, tab-all, tab-length}
+use Rattle.rules.specs.Laws.Small.{Small, SmallN, word-is-small, datum-again}
+use Rattle.rules.specs.Sound.Facts.{Fits, fits→, store-sound, each-at}
+use Rattle.rules.specs.Sound.Line.{Sized, Good}
+use Rattle.rules.specs.Sound.Run.{locals-zero}
+use Rattle.rules.specs.Sound.StepTables.{Roomy, vals-length, vars-most}
 
 vals-room : length (noStoreTables .vals) ≡ limits .variables
 unfolding noStoreTables

@@ -7,7 +7,7 @@ use Rattle.rules.specs.Prelude.B
 use Rattle.rules.specs.Prelude.A
 use Rattle.rules.specs.Program.{Rows, loosest, fieldOf}
 use Rattle.rules.specs.Machine.{Store, Block, blockAt, rowIn, tagIn, cellsIn, inside, cellAt, setCell}
-use Rattle.rules.specs.Facts.{Sound, Fits}
+use Rattle.rules.specs.Sound.Facts.{Sound, Fits}
 
 -- a part of an element that a write to the list keeps
 set-keeps : {A B : Type 0} (f : A → B) (l : List A) (i j : ℕ) (x z : A) → f x ≡ f (getD l i z) → f (getD (set l i x) j z) ≡ f (getD l j z)

@@ -20,10 +20,10 @@ use Rattle.rules.specs.Typing.{tyVar, addressOf, type}
 use Rattle.rules.specs.Environments.{coversEnv, withEntry, withBoxed, withTag, labelEnv, coversBoxed, coversOffset, coversTag, coversEntry, coversFirst, covers}
 use Rattle.rules.specs.Body.{putAt, goes, refuse, jump, isBox, isImm, ruleSet, rulePut, ruleGoto, ruleIf, ruleIfimm, ruleIftag, ruleIfint, ruleReturn, ruleLabel, lineOf}
 use Rattle.rules.specs.Machine.{jumpIf, storeAt, moved, jumpOn, rowIn, actIf, Store, tagIn, cellsIn, inside, evVar, eval, actSet, actPut, actIfimm, actIftag, actIfint, actReturn, act, setCell}
-use Rattle.rules.specs.Stages.{held, and-both}
-use Rattle.rules.specs.Facts.{Sound, Fits, AgreesI, AgreesT, MaySit, MayPoint, FitsImm, FitsPlace, FitsAll, eqZ→eq, same→eq, pos-of, zero-offset}
-use Rattle.rules.specs.SoundExpr.{NonZero, Meets, address, Aims, expr-sound, is-inside}
-use Rattle.rules.specs.Keeps.{put-sound, fits-keeps}
+use Rattle.rules.specs.Laws.Tests.{held, and-both, eqZ→eq, same→eq}
+use Rattle.rules.specs.Sound.Facts.{Sound, Fits, AgreesI, AgreesT, MaySit, MayPoint, FitsImm, FitsPlace, FitsAll, pos-of, zero-offset}
+use Rattle.rules.specs.Sound.Expr.{NonZero, Meets, address, Aims, expr-sound, is-inside}
+use Rattle.rules.specs.Sound.Keeps.{put-sound, fits-keeps}
 
 -- ---- the state fits an environment; what a line says and what it does agree
 

@@ -4,23 +4,23 @@ use Rattle.rules.specs.Prelude.{ℕ, List, _≡_, refl, sym, subst, leng
 use Rattle.rules.specs.Prelude.D
 use Rattle.rules.specs.Prelude.S
 use Rattle.rules.specs.Answers.{accepted}
-use Rattle.rules.specs.Tables.{Tables}
+use Rattle.rules.specs.Text.Layout.{Tables}
 use Rattle.rules.specs.Program.{Prog, kindAt, loosest, noEntry}
 use Rattle.rules.specs.View.{program}
 use Rattle.rules.specs.Check.{check, checked, verdict}
+use Rattle.rules.specs.Machine.Tables.{MTables, machine, runT, storeOf, valsOf, datumCode}
 use Rattle.rules.specs.Machine.{decide, Machine, saysAct, says, runOf}
-use Rattle.rules.specs.MachineTables.{MTables, machine, runT, storeOf, valsOf, datumCode}
 use Rattle.rules.specs.Fits.{Entered, unreached, entered, envAt}
-use Rattle.rules.specs.StoreFill.{StoreTables, fillStore}
+use Rattle.rules.specs.Store.Fill.{StoreTables, fillStore}
 use Rattle.rules.specs.Store.{readStore}
 use Rattle.rules.specs.Run.{start}
-use Rattle.rules.specs.Accepts.{verdict-exactly, accepted-tables}
-use Rattle.rules.specs.Facts.{→fits}
-use Rattle.rules.specs.SoundRun.{sound, Safe, SafeValue, NotStuck, GoodAt, before}
-use Rattle.rules.specs.StepTables.{run-tables}
-use Rattle.rules.specs.Starts.{Passed, text-passed, fill-roomy, start-good, program-sized}
 use Rattle.rules.specs.Wrong.{GoesOn, VariablesFit, SameBlocks, NotWrong}
-use Rattle.rules.specs.Steps.{run-same}
+use Rattle.rules.specs.Laws.Accepts.{verdict-exactly, accepted-tables}
+use Rattle.rules.specs.Laws.Steps.{run-same}
+use Rattle.rules.specs.Sound.Facts.{→fits}
+use Rattle.rules.specs.Sound.Run.{sound, Safe, SafeValue, NotStuck, GoodAt, before}
+use Rattle.rules.specs.Sound.StepTables.{run-tables}
+use Rattle.rules.specs.Sound.Starts.{Passed, text-passed, fill-roomy, start-good, program-sized}
 
 -- ---- a safe machine has not gone wrong
 

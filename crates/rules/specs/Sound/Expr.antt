@@ -14,8 +14,9 @@ use Rattle.rules.specs.Numbers.{num, zeroN, arithOf, among, suits, natOf
 use Rattle.rules.specs.Program.{Row, rowThere, rowAt, Rows, Var, Expr, bad, lit, var, arith, val, int, fetch, step, loosest, noEntry, isZero, psiOf, prodsOf, fieldsOf, fieldOf, kindAt}
 use Rattle.rules.specs.Typing.{intEntry, immEntry, tyVar, arithTag, tyArith, suitsTag, tyVal, immediate, tyInt, lone, Spot, nowhere, spot, spotOf, addrSpot, addressOf, fetched, tyFetch, stepped, tyStep, type}
 use Rattle.rules.specs.Machine.{Store, rowIn, tagIn, cellsIn, inside, cellAt, evVar, evArith, evVal, evInt, evFetch, moved, evStep, eval}
-use Rattle.rules.specs.Stages.{and-both}
-use Rattle.rules.specs.Facts.{Fits, Sound, FitsAll, FitsPlace, AgreesI, AgreesT, MaySit, MayPoint, zero-offset}
+use Rattle.rules.specs.Laws.Tests.{and-both}
+use Rattle.rules.specs.Exactly.Judges.{lone-row}
+use Rattle.rules.specs.Sound.Facts.{Fits, Sound, FitsAll, FitsPlace, AgreesI, AgreesT, MaySit, MayPoint, zero-offset}
 
 abbrev pub NonZero : ℕ → Type 0
 NonZero zero = ⊥
@@ -137,9 +138,6 @@ spot-imm s ψ p B.Either i G.Unknown n l h = go (isZero i) (lone ψ p) refl
     go true false q = tt
     go false d q = tt
 
-one-product : (ψ : Psi) (p : ℕ) → T (lone ψ p) → p ≡ 1
-one-product (Upto c) p h = eqb→eq p 1 (and-both (eqb c 0) (eqb p 1) h .1)
-
 spot-place : (s : Store) (ψ : Psi) (p : ℕ) (c : Boxed) (i : Offset) (t : Tag) (b o : ℕ) → MayPoint c → AgreesI i (num (pos o)) → AgreesT t (num (pos (tagIn s b))) → tagIn s b < p → Points s (spotOf c i t (lone ψ p)) (Place b o)
 spot-place s ψ p B.Block I.Unknown t b o l u v h = tt
 spot-place s ψ p B.Block (I.Known i) G.Unknown b o l u v h = tt
@@ -149,7 +147,7 @@ spot-place s ψ p B.Either i G.Unknown b o l u v h = go (isZero i) (lone ψ p) r
   where
     go : (c d : Bool) → isZero i ≡ c → lone ψ p ≡ d → Points s (need nowhere (c && d) (spot zeroN zeroN)) (Place b o)
     go true true x q =
-        let one : p ≡ 1 = one-product ψ p (rw q tt) in
+        let one : p ≡ 1 = lone-row ψ p (rw q tt) .1 in
         let y : 0 ≡ tagIn s b = omega lin in
         (zero-offset i (num (pos o)) (rw x tt) u, ap (λ (k : ℕ). num (pos k)) y)
     go true false x q = tt

@@ -2,31 +2,10 @@
 use lib.Dec.{T}
 use borrow.Author.Tests.{eqb-true, eqb-false}
 use native.Mathlib.Omega.{arith as lin}
-use Rattle.rules.specs.Prelude.{ℕ, _+_, _<_, Bool, true, false, _&&_, List, [], _∷_, _++_, map, _≡_, refl, ap, _↔_, eqb, Answer}
-use Rattle.rules.specs.When.{One, when, need}
+use Rattle.rules.specs.Prelude.{ℕ, _+_, _<_, Bool, true, false, List, [], _∷_, _++_, map, _≡_, refl, ap, _↔_, eqb, Answer}
+use Rattle.rules.specs.When.{One, need}
 use Rattle.rules.specs.Answers.{answer, accepted, passes, andThen, first}
-
--- ---- tests
-
--- a test that holds is true
-pub held : (b : Bool) → T b → b ≡ true
-held true h = refl
-
-pub and-held : (a b : Bool) → T a → T b → T (a && b)
-and-held true true h k = tt
-
-pub and-both : (a b : Bool) → T (a && b) → T a × T b
-and-both true true h = (tt, tt)
-
--- a property of what is needed: of the refusal, and of the rest where the test holds
-pub by-need : {A : Type 0} (Q : A → Type 0) (refusal : A) (b : Bool) (x : A) → Q refusal → (T b → Q x) → Q (need refusal b x)
-by-need Q refusal true x r f = f tt
-by-need Q refusal false x r f = r
-
--- the same of a choice
-pub by-when : {A : Type 0} (Q : A → Type 0) (b : Bool) (f g : One → A) → (b ≡ true → Q (f tt)) → (b ≡ false → Q (g tt)) → Q (when b f g)
-by-when Q true f g x y = x refl
-by-when Q false f g x y = y refl
+use Rattle.rules.specs.Laws.Tests.{by-when}
 
 -- ---- each element of a list
 

@@ -3,7 +3,7 @@ use Rattle.rules.specs.Prelude.{ℕ, zero, suc, _+_, _-_, max, Bool, _&&
 use Rattle.rules.specs.Prelude.N
 use Rattle.rules.specs.When.{One, when}
 use Rattle.rules.specs.Bytes.{bytes}
-use Rattle.rules.specs.Words.{words, byteAt, plainAt, numberAt, orWord, byteIs, varAt, arity, headAt}
+use Rattle.rules.specs.Text.Words.{words, byteAt, plainAt, numberAt, orWord, byteIs, varAt, arity, headAt}
 
 -- ---- one after the other
 

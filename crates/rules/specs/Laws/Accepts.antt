@@ -4,14 +4,15 @@ use native.Mathlib.Omega.{arith as lin}
 use Rattle.rules.specs.Prelude.{ℕ, zero, suc, _+_, List, _≡_, ap, _↔_, ltb, eqb, length, Answer, Count}
 use Rattle.rules.specs.Limits.{limits}
 use Rattle.rules.specs.Answers.{answer, accepted, andThen}
-use Rattle.rules.specs.Tables.{Tables, nothing, zeros}
+use Rattle.rules.specs.Text.Layout.{Tables, nothing, zeros}
 use Rattle.rules.specs.Text.{Lined, lined, TextOut, andLine, linesFrom, readText, mostLines, lineAt}
 use Rattle.rules.specs.Program.{Prog}
 use Rattle.rules.specs.View.{program}
 use Rattle.rules.specs.Names.{names}
 use Rattle.rules.specs.Body.{types, ends, isEnd, lastOf, lastLine}
 use Rattle.rules.specs.Check.{check, checked, verdict}
-use Rattle.rules.specs.Stages.{by-need, by-when, Plain, accepted-plain, refused-plain, first-plain, then-exactly, then-plain}
+use Rattle.rules.specs.Laws.Tests.{by-need, by-when}
+use Rattle.rules.specs.Laws.Stages.{Plain, accepted-plain, refused-plain, first-plain, then-exactly, then-plain}
 
 -- ---- no stage gives the number 0 with another line
 

@@ -5,7 +5,7 @@ use Rattle.rules.specs.Prelude.D
 use Rattle.rules.specs.When.{One, when}
 use Rattle.rules.specs.Numbers.{numCode, wordOf}
 use Rattle.rules.specs.Limits.{limits}
-use Rattle.rules.specs.Tables.{cell}
+use Rattle.rules.specs.Text.Layout.{cell}
 use Rattle.rules.specs.Program.{Prog}
 use Rattle.rules.specs.View.{views, tab, upTo}
 use Rattle.rules.specs.Machine.{machines, decide, Block, Store, Machine}

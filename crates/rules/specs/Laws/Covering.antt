@@ -7,8 +7,7 @@ use Rattle.rules.specs.Prelude.G
 use Rattle.rules.specs.Numbers.{sameNum}
 use Rattle.rules.specs.Program.{noEntry}
 use Rattle.rules.specs.Environments.{coversBoxed, coversOffset, coversTag, coversEntry, coversFirst, coversEnv}
-use Rattle.rules.specs.Stages.{and-held, and-both}
-use Rattle.rules.specs.Facts.{same→eq, same-refl}
+use Rattle.rules.specs.Laws.Tests.{and-held, and-both, same→eq, same-refl}
 
 -- ---- parts
 
