@@ -8,7 +8,7 @@ use Rattle.rules.specs.When.{One, when}
 use Rattle.rules.specs.Numbers.{numCode}
 use Rattle.rules.specs.Limits.{limits}
 use Rattle.rules.specs.Text.Layout.{rowWidth, varWidth, labelWidth, lineWidth, cell, Tables}
-use Rattle.rules.specs.Program.{parts, Row, Var, Expr, bad, lit, var, arith, val, int, fetch, step, Stmt, badS, setS, putS, gotoS, ifS, ifimmS, iftagS, ifintS, returnS, labelS, Label, Prog, entry}
+use Rattle.rules.specs.Program.{Rows, parts, Row, Var, Expr, bad, lit, var, arith, val, int, fetch, step, Stmt, badS, setS, putS, gotoS, ifS, ifimmS, iftagS, ifintS, returnS, labelS, Label, Prog, entry}
 
 -- f 0, f 1, .., n of them
 unfoldable pub tab : {A : Type 0} → ℕ → (ℕ → A) → List A
@@ -121,18 +121,31 @@ stmtOf N labelW l v w k = labelS l
 unfoldable pub stmtFrom : List ℕ → List ℕ → ℕ → Stmt
 stmtFrom N B i = stmtOf N (wayOf (cell B lineWidth i 0)) (cell B lineWidth i 1) (cell B lineWidth i 2) (cell B lineWidth i 3) (cell B lineWidth i 4)
 
--- ---- the program
+-- ---- the program: its sizes stand in Z
+
+unfoldable pub rowsFrom : List ℕ → List ℕ → Rows
+rowsFrom Z R = tab (upTo (limits .rows) (getD Z 1 0)) (rowFrom R)
+
+unfoldable pub varsFrom : List ℕ → List ℕ → List Var
+varsFrom Z D = tab (upTo (limits .variables) (getD Z 2 0)) (varFrom D)
+
+unfoldable pub labelsFrom : List ℕ → List ℕ → List Label
+labelsFrom Z L = tab (upTo (limits .labels) (getD Z 3 0)) (labelFrom L)
+
+unfoldable pub bodyFrom : List ℕ → List ℕ → List ℕ → List Stmt
+bodyFrom Z N B = tab (upTo (limits .lines) (getD Z 4 0)) (stmtFrom N B)
+
 unfoldable pub program : Tables → Prog
 program t =
     record {
       ret = kindCode (getD (t .size) 0 0);
-      rows = tab (upTo (limits .rows) (getD (t .size) 1 0)) (rowFrom (t .rows));
-      vars = tab (upTo (limits .variables) (getD (t .size) 2 0)) (varFrom (t .vars));
-      labels = tab (upTo (limits .labels) (getD (t .size) 3 0)) (labelFrom (t .labels));
-      body = tab (upTo (limits .lines) (getD (t .size) 4 0)) (stmtFrom (t .nodes) (t .body));
+      rows = rowsFrom (t .size) (t .rows);
+      vars = varsFrom (t .size) (t .vars);
+      labels = labelsFrom (t .size) (t .labels);
+      body = bodyFrom (t .size) (t .nodes) (t .body);
     }
 
 -- to compute with what stands here
 unfoldable pub views : One
-unfolding parts tab upTo psiCode productFrom rowFrom kindCode varFrom boxedCode offsetCode tagCode entryFrom labelFrom formOf treeAt wayOf stmtOf stmtFrom program
+unfolding parts tab upTo psiCode productFrom rowFrom kindCode varFrom boxedCode offsetCode tagCode entryFrom labelFrom formOf treeAt wayOf stmtOf stmtFrom rowsFrom varsFrom labelsFrom bodyFrom program
 views = tt

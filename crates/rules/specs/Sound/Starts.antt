@@ -12,7 +12,7 @@ use Rattle.rules.specs.Answers.{accepted}
 use Rattle.rules.specs.Text.Words.{valueOf}
 use Rattle.rules.specs.Text.Layout.{Tables}
 use Rattle.rules.specs.Program.{labelAt, Prog, Var, Rows, psiOf, kindAt, loosest, noEntry}
-use Rattle.rules.specs.View.{upTo, labelFrom, program, varFrom}
+use Rattle.rules.specs.View.{varsFrom, labelsFrom, upTo, labelFrom, program, varFrom}
 use Rattle.rules.specs.Environments.{localEntry, startEntry, noVar, startAt, startEnv}
 use Rattle.rules.specs.Body.{localOk, localLine}
 use Rattle.rules.specs.Check.{check}
@@ -131,12 +131,12 @@ local-small Cint n h = h
 local-small (Value r) n h = h
 
 numbers-small : (T : Tables) (v : ℕ) → SmallN (getD (program T .vars) v noVar .number)
-unfolding program varFrom
+unfolding program varsFrom varFrom
 numbers-small T v = tab-all (λ d. SmallN (d .number)) _ (varFrom (T .vars)) noVar (record { sfits = omega lin }) (λ i. word-is-small _) v
 
 -- the view gives arrays of 32 entries
 pub program-sized : (t : Tables) → Sized (program t)
-unfolding program labelAt labelFrom
+unfolding program labelsFrom labelAt labelFrom
 program-sized t =
     record {
       vars = vars-most t;

@@ -10,7 +10,7 @@ use Rattle.rules.specs.Numbers.{eqZ, zeroN, sameNum}
 use Rattle.rules.specs.Limits.{limits}
 use Rattle.rules.specs.Text.Layout.{Tables, cell}
 use Rattle.rules.specs.Program.{Rows, rowThere, Expr, bad, lit, var, arith, val, int, fetch, step, Stmt, badS, setS, putS, gotoS, ifS, ifimmS, iftagS, ifintS, returnS, labelS, labelThere, Prog}
-use Rattle.rules.specs.View.{formOf, Walked, walked, one, two, treeNode, treeAt, Form, none, litF, varF, fetchF, intF, valF, stepF, calc, withOne, withTwo, treeOf, Way, noW, setW, putW, gotoW, ifW, ifimmW, iftagW, ifintW, returnW, labelW, stmtOf, stmtFrom, program, tab, upTo}
+use Rattle.rules.specs.View.{bodyFrom, varsFrom, formOf, Walked, walked, one, two, treeNode, treeAt, Form, none, litF, varF, fetchF, intF, valF, stepF, calc, withOne, withTwo, treeOf, Way, noW, setW, putW, gotoW, ifW, ifimmW, iftagW, ifintW, returnW, labelW, stmtOf, stmtFrom, program, tab, upTo}
 use Rattle.rules.specs.Machine.Tables.{blockWidth, headWidth, runT, datumCode, codeOf, MTables, blockFrom, storeOf, valsOf, machine, applyT, stepFromT, stepT}
 use Rattle.rules.specs.Machine.{tagIn, evArith, evVal, evInt, evFetch, evStep, needPlace, noBlock, evVar, moved, eval, jumpIf, jumpOn, storeAt, actSet, actPut, actIf, actIfimm, actIftag, actIfint, actReturn, act, inside, cellsIn, cellAt, runOf, Store, decide, setCell, apply, stepFrom, stepOf}
 use Rattle.rules.specs.Laws.Tests.{by-need, and-both}
@@ -151,7 +151,7 @@ line-small N returnW l v w k = one-line returnS (λ x p. p) (treeAt N (limits .d
 line-small N labelW l v w k = tt
 
 pub body-small : (T : Tables) (i : ℕ) → SmallS (getD (program T .body) i badS)
-unfolding program stmtFrom
+unfolding program bodyFrom stmtFrom
 body-small T i = tab-all SmallS _ (stmtFrom (T .nodes) (T .body)) badS tt (λ j. line-small (T .nodes) _ _ _ _ _) i
 
 -- ---- what tables hold, and what expressions give
@@ -348,7 +348,7 @@ unfolding valsOf
 vals-length n W = tab-length n _
 
 pub vars-most : (T : Tables) → length (program T .vars) ≤ limits .variables
-unfolding program
+unfolding program varsFrom
 vars-most T = rw (tab-length (upTo (limits .variables) (getD (T .size) 2 0))) (upTo-le (limits .variables) (getD (T .size) 2 0))
 
 module _ (T : Tables) where
