@@ -188,9 +188,9 @@ pub struct Line {
 
 // ---- readers: each is a function of the text and a place in it
 
-// A word that was read (a number as its 32 bits, a key or an operator as its number) and the next byte; or the first wrong byte.
+// What was read as it stands in a table (a number as its 32 bits, a key or an operator as its number, a datum as its code) and the next byte; or the first wrong byte.
 pub enum Reading {
-    Got(u32, usize),
+    Got(u64, usize),
     Bad(usize),
 }
 
