@@ -1,5 +1,5 @@
 -- The demands, as short statements that are proved. Demand 3 stands here; demands 1 and 2 speak of code, and come with it. Assumes nothing.
-use Rattle.rules.specs.Prelude.{ℕ, List, _≡_}
+use Rattle.rules.specs.Prelude.{ℕ, List, _≡_, Stuck}
 use Rattle.rules.specs.Answers.{accepted}
 use Rattle.rules.specs.Program.{Prog}
 use Rattle.rules.specs.View.{program}
@@ -9,7 +9,7 @@ use Rattle.rules.specs.Machine.{Machine}
 use Rattle.rules.specs.Store.{readStore}
 use Rattle.rules.specs.Run.{start}
 use Rattle.rules.specs.Wrong.{NotWrong}
-use Rattle.rules.specs.Sound.Texts.{passed-never-wrong, accepted-check}
+use Rattle.rules.specs.Sound.Texts.{passed-counts, passed-never-wrong, accepted-check}
 
 -- the program that a glue text is read as
 abbrev pub programOf : List ℕ → Prog
@@ -25,3 +25,8 @@ pub demand3 : (glue store : List ℕ) → verdict glue ≡ accepted → readStor
     → (n : ℕ) → NotWrong (programOf glue) (after glue store 0) (after glue store n)
 unfolding runT
 demand3 glue store ok fits n = passed-never-wrong (checked glue .tables) (accepted-check glue ok) store fits n
+
+-- The count is the number of steps: until the return, n steps have been counted after n steps. (A returned machine stays as it is and counts no more: Laws/Steps, returned-stays.)
+pub counted : (glue store : List ℕ) → verdict glue ≡ accepted → readStore (programOf glue) store .answer ≡ accepted
+    → (n : ℕ) → after glue store n .value ≡ Stuck → after glue store n .steps ≡ n
+counted glue store ok fits n = passed-counts (checked glue .tables) (accepted-check glue ok) store fits n

@@ -1,6 +1,6 @@
 -- Steps: what is stuck changes nothing, what has returned stays, each other step counts one, and no step changes a block's row, tag or length. Assumes nothing.
 use native.Mathlib.Omega.{arith as lin}
-use Rattle.rules.specs.Prelude.{ℕ, zero, suc, _+_, _<_, _≡_, refl, sym, subst, _∙_, length, Given, Stuck, Has, Act, Stepped}
+use Rattle.rules.specs.Prelude.{ℕ, zero, suc, _+_, _<_, _≡_, refl, sym, ap, subst, _∙_, length, Datum, Given, Stuck, Has, Act, Stepped}
 use Rattle.rules.specs.Prelude.D
 use Rattle.rules.specs.Prelude.S
 use Rattle.rules.specs.Program.{Prog}
@@ -78,14 +78,27 @@ unfolding runOf
 run-adds P zero n k = let z : 0 + n ≡ n = omega lin in rw z
 run-adds P (suc m) n k = let z : suc m + n ≡ suc (m + n) = omega lin in rw z (run-adds P m n (stepOf P k))
 
--- the count after n steps is n more, if each of them moved
-pub run-counts : (P : Prog) (n : ℕ) (m : Machine) → ((k : ℕ) → k < n → says P (runOf P k m) ≡ S.Moved) → runOf P n m .steps ≡ m .steps + n
+-- a returned machine stays so through any run
+returned-run : (P : Prog) (n : ℕ) (m : Machine) (d : Datum) → m .value ≡ Has d → runOf P n m ≡ m
+unfolding runOf stepOf
+returned-run P zero m d e = refl
+returned-run P (suc n) m d e = ap (runOf P n) (ap (stepFrom P m) e) ∙ returned-run P n m d e
+
+-- until the return the count is the number of steps, if no step is stuck
+pub count-until-return : (P : Prog) (n : ℕ) (m : Machine) → ((k : ℕ) → k < n → runOf P k m .value ≡ Stuck → says P (runOf P k m) ≡ S.Moved) → runOf P n m .value ≡ Stuck → runOf P n m .steps ≡ m .steps + n
 unfolding runOf
-run-counts P zero m h = omega lin
-run-counts P (suc n) m h =
-    let a : runOf P n (stepOf P m) .steps ≡ stepOf P m .steps + n = run-counts P n (stepOf P m) (λ k l. h (suc k) (omega lin)) in
-    let b : stepOf P m .steps ≡ m .steps + 1 = moved-counts P m (h 0 (omega lin)) in
-    omega lin
+count-until-return P zero m h e = omega lin
+count-until-return P (suc n) m h e = go (m .value) refl (λ f. count-until-return P n (stepOf P m) (λ k l q. h (suc k) (omega lin) q) f)
+  where
+    go : (g : Given) → m .value ≡ g → (runOf P n (stepOf P m) .value ≡ Stuck → runOf P n (stepOf P m) .steps ≡ stepOf P m .steps + n) → runOf P n (stepOf P m) .steps ≡ m .steps + suc n
+    go Stuck q f =
+        let a : runOf P n (stepOf P m) .steps ≡ stepOf P m .steps + n = f e in
+        let b : stepOf P m .steps ≡ m .steps + 1 = moved-counts P m (h 0 (omega lin) q) in
+        omega lin
+    go (Has d) q f =
+        let w : runOf P (suc n) m .value ≡ Has d = ap (λ (x : Machine). x .value) (returned-run P (suc n) m d q) ∙ q in
+        let z : _≡_ {A = ℕ} 0 1 = cc in
+        absurd (omega lin)
 
 -- ---- blocks keep their row, tag and length
 
