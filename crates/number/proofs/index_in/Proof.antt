@@ -1,0 +1,14 @@
+-- `number::index_in` meets its contract. Assumes nothing.
+use Rattle.number.specs.Places.{indexIn}
+use lib.IntN.{+ℤ-idl, ℤ}
+use mathlib.Core.Path.{_∙_, ap}
+use borrow.Author.Needs.{needs}
+use Rattle.number.proofs.index_in.Statement.{statement}
+use Rattle.number.proofs.index_in.Tie as tie
+
+pub index-in-spec : {M : Type 1} → statement M
+index-in-spec =
+    tie.close
+    (tie.spec
+    (λ c κs. search needs)  -- place-in-requires
+    (λ c. c .place-in .ensures ∙ ap (λ (z : ℤ). indexIn z (c .before .args .n)) (+ℤ-idl (c .before .args .k .n))))  -- returns
