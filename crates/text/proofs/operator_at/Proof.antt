@@ -1,0 +1,30 @@
+-- `text::operator_at` meets its contract: a chain of nine words. Assumes nothing.
+use borrow.Author.Needs.{needs}
+use Rattle.rules.specs.Text.Words.{operatorAt}
+use Rattle.text.proofs.operator_at.Statement.{statement}
+use Rattle.text.proofs.operator_at.Tie as tie
+
+pub operator-at-spec : {M : Type 1} → statement M
+unfolding operatorAt
+operator-at-spec =
+    tie.close
+    (tie.spec
+    (λ c. search needs)  -- slice-aggregate-or-word
+    (λ c κs. search needs)  -- or-word-requires
+    (λ c. search needs)  -- slice-aggregate-or-word-2
+    (λ c κs. search needs)  -- or-word-requires-2
+    (λ c. search needs)  -- slice-aggregate-or-word-3
+    (λ c κs. search needs)  -- or-word-requires-3
+    (λ c. search needs)  -- slice-aggregate-or-word-4
+    (λ c κs. search needs)  -- or-word-requires-4
+    (λ c. search needs)  -- slice-aggregate-or-word-5
+    (λ c κs. search needs)  -- or-word-requires-5
+    (λ c. search needs)  -- slice-aggregate-or-word-6
+    (λ c κs. search needs)  -- or-word-requires-6
+    (λ c. search needs)  -- slice-aggregate-or-word-7
+    (λ c κs. search needs)  -- or-word-requires-7
+    (λ c. search needs)  -- slice-aggregate-or-word-8
+    (λ c κs. search needs)  -- or-word-requires-8
+    (λ c. search needs)  -- slice-aggregate-or-word-9
+    (λ c κs. search needs)  -- or-word-requires-9
+    (λ c. rw (c .or-word9 .ensures, c .before .before .or-word8 .ensures, c .before .before .before .before .or-word7 .ensures, c .before .before .before .before .before .before .or-word6 .ensures, c .before .before .before .before .before .before .before .before .or-word5 .ensures, c .before .before .before .before .before .before .before .before .before .before .or-word4 .ensures, c .before .before .before .before .before .before .before .before .before .before .before .before .or-word3 .ensures, c .before .before .before .before .before .before .before .before .before .before .before .before .before .before .or-word2 .ensures, c .before .before .before .before .before .before .before .before .before .before .before .before .before .before .before .before .or-word .ensures)))  -- returns
