@@ -1,0 +1,3 @@
+pub mod LabelLines
+pub mod Laws
+pub mod Places

@@ -1,0 +1,15 @@
+use Rattle.rules.specs.View.{psiCode}
+use borrow.Author.Tests.{ne-eqb}
+use borrow.Author.Needs.{needs}
+use Rattle.program.proofs.psi_code.Statement.{statement}
+use Rattle.program.proofs.psi_code.Tie as tie
+
+pub psi-code-spec : {M : Type 1} → statement M
+unfolding psiCode
+psi-code-spec =
+    tie.close
+    (tie.spec
+    (λ c. search needs)  -- sub-t3
+    (λ c. rw (c .match .keys1))  -- returns
+    (λ c. rw (c .match .keys2))  -- returns-2
+    (λ c. rw (ne-eqb _ _ (c .match .rest .1))))  -- returns-3

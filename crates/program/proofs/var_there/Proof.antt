@@ -1,0 +1,13 @@
+use Prim.Native.Nat.{ℕ}
+use lib.Dec.{ltb}
+use mathlib.Core.Path.{ap}
+use borrow.Author.Needs.{needs}
+use Rattle.program.proofs.var_there.Statement.{statement}
+use Rattle.program.proofs.var_there.Tie as tie
+
+pub var-there-spec : {M : Type 1} → statement M
+var-there-spec =
+    tie.close
+    (tie.spec
+    (λ c κs. search needs)  -- var-count-requires
+    (λ c. λ T. ap (λ (n : ℕ). ltb (c .before .args .v) n) (c .var-count .ensures T)))  -- returns
