@@ -5,7 +5,7 @@ ghost use Prim.Native.Nat.{ℕ, _+_, _-_, _*_, _/_, _%_, _<_};
 ghost use lib.ListN.{length, getD, set, replicate};
 ghost use Rattle.rules.specs.Program.{psiOf, prodsOf, fieldsOf, fieldOf, kindAt, labelAt, rowThere, varThere, labelThere, noEntry};
 ghost use Rattle.rules.specs.Environments.{noVar};
-ghost use Rattle.rules.specs.Text.Layout.{cell, rowWidth, varWidth, labelWidth};
+ghost use Rattle.rules.specs.Text.Layout.{cell, rowWidth, varWidth, labelWidth, zeros};
 ghost use Rattle.rules.specs.Text.Fill.{putVar, putField, putLine, putEntry};
 ghost use Rattle.rules.specs.View.{psiCode, kindCode, entryFrom, rowsFrom, varsFrom, labelsFrom, bodyFrom, program};
 ghost use Rattle.program.specs.Lines.{storedAt, isLabelLine, tablesOf};
@@ -459,4 +459,23 @@ pub fn clear_body(body: &mut [u32; 2560])
     ensures { λ u. ⌜ now (body .exit) ≡ replicate 2560 0 ⌝ }
 {
     *body = [0; 2560];
+}
+
+// All tables of a program.
+pub fn clear(
+    size: &mut [u32; 6],
+    nodes: &mut [u64; 4096],
+    rows: &mut [u32; 17536],
+    vars: &mut [u32; 96],
+    labels: &mut [u64; 6208],
+    body: &mut [u32; 2560],
+)
+    ensures { λ u. ⌜ tablesOf (now (size .exit)) (now (nodes .exit)) (now (rows .exit)) (now (vars .exit)) (now (labels .exit)) (now (body .exit)) ≡ zeros ⌝ }
+{
+    clear_size(size);
+    clear_nodes(nodes);
+    clear_rows(rows);
+    clear_vars(vars);
+    clear_labels(labels);
+    clear_body(body);
 }

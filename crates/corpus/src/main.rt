@@ -1,0 +1,134 @@
+// Many texts from standard input: for each its length in bytes, in decimal, a line feed, then that many bytes.
+// A line is printed for each: the number and the line of its answer, as far as the names (1 to 5).
+ghost use mathlib.Core.Path.{_≡_};
+ghost use Rattle.glue.specs.Named.{readNamed};
+use libc::{STDIN_FILENO, STDOUT_FILENO};
+use rules::Answer;
+
+// The next byte of the input, 256 at its end.
+fn next_byte() -> u64 {
+    let mut one = [0u8; 1];
+    let got = io::read_full(STDIN_FILENO, &mut one);
+    if got == 0 { 256 } else { wide(one[0]) }
+}
+
+fn wide(b: u8) -> u64 {
+    b as u64
+}
+
+// What a length line holds: the length, or the end of the input.
+enum Length {
+    Of(usize),
+    End,
+}
+
+// A length of at most seven digits and its line feed; anything else ends the input.
+fn next_length() -> Length {
+    let mut n: usize = 0;
+    let mut digits: usize = 0;
+    while digits < 8 {
+        let b = next_byte();
+        if b == 10 {
+            if digits == 0 {
+                return Length::End;
+            }
+            return Length::Of(n);
+        }
+        if b < 48 {
+            return Length::End;
+        }
+        if 57 < b {
+            return Length::End;
+        }
+        n = (n * 10 + (b - 48) as usize) % 100000000;
+        digits += 1;
+    }
+    Length::End
+}
+
+// At most so many bytes of the input are read, and their number is told.
+fn read_some(most: usize) -> usize {
+    let mut space = io::buffer();
+    let chunk: &mut [u8] = &mut space;
+    read_into(chunk, most)
+}
+
+fn read_into(chunk: &mut [u8], most: usize) -> usize {
+    if most < chunk.len() {
+        io::read_full(STDIN_FILENO, &mut chunk[..most])
+    } else {
+        io::read_full(STDIN_FILENO, chunk)
+    }
+}
+
+// So many bytes are passed over.
+fn pass_over(n: usize) {
+    let mut left = n;
+    while 0 < left {
+        let got = read_some(left);
+        if got == 0 {
+            return;
+        }
+        if left <= got {
+            return;
+        }
+        left -= got;
+    }
+}
+
+// Answers 1 to 5; 0 where a text passes these stages.
+fn judged(text: &[u8]) -> Answer
+    ensures { λ r. ⌜ r ≡ readNamed (now (text .entry)) .answer ⌝ }
+{
+    let mut size = [0u32; 6];
+    let mut nodes = [0u64; 4096];
+    let mut rows = [0u32; 17536];
+    let mut vars = [0u32; 96];
+    let mut labels = [0u64; 6208];
+    let mut body = [0u32; 2560];
+    glue::read(
+        text,
+        &mut size,
+        &mut nodes,
+        &mut rows,
+        &mut vars,
+        &mut labels,
+        &mut body,
+    )
+}
+
+fn show(a: Answer) {
+    io::print_decimal(STDOUT_FILENO, a.number as u64);
+    io::write_all(STDOUT_FILENO, b" ");
+    io::print_decimal(STDOUT_FILENO, a.line as u64);
+    io::write_all(STDOUT_FILENO, b"\n");
+}
+
+// A text is judged by as much of it as decides its answer.
+fn one_text(n: usize) {
+    let mut room = [0u8; 32769];
+    let text: &mut [u8] = &mut room;
+    let got = read_into(text, n);
+    judge_first(text, got);
+    if got < n {
+        pass_over(n - got);
+    }
+}
+
+fn judge_first(text: &[u8], n: usize) {
+    if n <= text.len() {
+        show(judged(&text[..n]));
+    }
+}
+
+fn main() {
+    let mut texts: usize = 0;
+    while texts < 1000000 {
+        let length = next_length();
+        match length {
+            Length::Of(n) => one_text(n),
+            Length::End => return,
+        }
+        texts += 1;
+    }
+}

@@ -1,0 +1,28 @@
+// A glue text into the tables of a program, as far as the names: answers 1 to 5, the earliest stage first.
+ghost use Rattle.reader.specs.Read.{Holds};
+ghost use Rattle.glue.specs.Named.{readNamed};
+use rules::Answer;
+
+// Answers 1 to 5, or 0 with the program in the tables. Whatever they held before, they are all 0 on a refusal.
+pub fn read(
+    s: &[u8],
+    size: &mut [u32; 6],
+    nodes: &mut [u64; 4096],
+    rows: &mut [u32; 17536],
+    vars: &mut [u32; 96],
+    labels: &mut [u64; 6208],
+    body: &mut [u32; 2560],
+) -> Answer
+    ensures { λ r. ⌜ Holds (readNamed (now (s .entry))) r (now (size .exit)) (now (nodes .exit)) (now (rows .exit)) (now (vars .exit)) (now (labels .exit)) (now (body .exit)) ⌝ }
+{
+    let a = reader::read(s, size, nodes, rows, vars, labels, body);
+    if a.number != 0 {
+        program::clear(size, nodes, rows, vars, labels, body);
+        return a;
+    }
+    let b = names::named(size, nodes, rows, vars, labels, body);
+    if b.number != 0 {
+        program::clear(size, nodes, rows, vars, labels, body);
+    }
+    b
+}

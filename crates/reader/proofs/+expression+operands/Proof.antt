@@ -1,0 +1,73 @@
+-- The proof of the cycle of calls {expression, operands}. The depth falls from an expression to its operands, and the number of operands left from one to the next.
+-- Assumes nothing.
+use mathlib.Core.Path.{_≡_, sym, ap, _∙_}
+use Prim.Native.Nat.{ℕ, _+_, _-_, _*_, _<_}
+use native.Mathlib.Omega.{arith}
+use native.Mathlib.Nat.{pos-of-ne-zero}
+use borrow.Author.Needs.{needs}
+use borrow.Fn.Kinds.{In}
+use borrow.Fn.PlainCycle.{Measures, is, falls, and}
+use Rattle.rules.specs.declared.Filling.{Filling}
+use Rattle.rules.specs.Text.Fill as fill
+use Rattle.text.proofs.Laws.{head-read}
+use Rattle.reader.proofs.Exprs.{no-depth, by-head, no-operand, an-operand, no-room, room, deeper, ends}
+use Rattle.reader.proofs.expression.Reads as expression
+use Rattle.reader.proofs.expression.Kinds as expression-kinds
+use Rattle.reader.proofs.+expression+operands.Lts-expression as expression-lts
+use Rattle.reader.proofs.operands.Reads as operands
+use Rattle.reader.proofs.operands.Kinds as operands-kinds
+use Rattle.reader.proofs.+expression+operands.Lts-operands as operands-lts
+use Rattle.program.proofs.put_node.Reads as put-node-reads
+use Rattle.text.proofs.arity.Reads as arity-reads
+use Rattle.text.proofs.head_at.Reads as head-at-reads
+use Rattle.reader.proofs.+expression+operands.{statement}
+use Rattle.reader.proofs.+expression+operands.Tie.{close}
+
+abbrev μ-expression : Measures 2 expression-kinds.ps ℕ
+μ-expression κs a = a .1 .0 * 36893488147419103232
+
+abbrev μ-operands : Measures 2 operands-kinds.ps ℕ
+μ-operands κs a = a .1 .0 * 36893488147419103232 + a .1 .1 .0 + 1
+
+abbrev expression-at : ℕ → In 2 expression-kinds.ps
+expression-at t = and 2 expression-kinds.ps (is 2 expression-kinds.ps μ-expression t) expression.Pre
+
+abbrev expression-below : ℕ → In 2 expression-kinds.ps
+expression-below t = and 2 expression-kinds.ps (falls 2 expression-kinds.ps _<_ μ-expression t) expression.Pre
+
+abbrev operands-at : ℕ → In 2 operands-kinds.ps
+operands-at t = and 2 operands-kinds.ps (is 2 operands-kinds.ps μ-operands t) operands.Pre
+
+abbrev operands-below : ℕ → In 2 operands-kinds.ps
+operands-below t = and 2 operands-kinds.ps (falls 2 operands-kinds.ps _<_ μ-operands t) operands.Pre
+
+pub +expression+operands-spec : {M : Type 1} → statement M
++expression+operands-spec =
+    close μ-expression μ-operands
+    (λ t. expression-lts.spec (head-at-reads.Asked, head-at-reads.Learnt, put-node-reads.Asked, put-node-reads.Learnt, arity-reads.Asked, arity-reads.Learnt, operands-below t, operands.Post)
+    (expression-at t)
+    expression.Post
+    (λ c. let a = c .before .before .args in sym (no-depth (a .s .now) (a .at) (a .free) (a .nodes .now) (a .depth) (c .if1 .taken)))  -- returns
+    (λ c κs. search needs)  -- head-at-requires
+    (λ c. search needs)  -- enum-told
+    (λ c. search needs)  -- enum-known-h
+    (λ c. let a = c .before .before .before .before .before .before .before .args in let h = c .before .before .h .given in sym (by-head (a .s .now) (a .at) (a .free) (a .nodes .now) (a .depth) (c .before .before .before .before .before .if1 .left) (sym (h .1) ∙ c .before .before .before .before .head-at .ensures) ∙ no-room (fill.expression (a .s .now) (a .depth - 1)) (h .0 .1 .1 .0) (a .free) (a .nodes .now) (h .0 .0) (h .0 .1 .0) (c .if2 .taken)))  -- returns-2
+    (λ c κs. search needs)  -- put-node-requires
+    (λ c. pos-of-ne-zero (c .before .before .before .before .before .before .before .if1 .left))  -- sub-operands
+    (λ c κs. search needs)  -- arity-requires
+    (λ c. search needs)  -- add-operands
+    (λ c κs. let a = c .before .before .before .before .before .before .before .before .before .before .before .args in let h = c .before .before .before .before .before .before .h .given in (deeper (a .depth) (c .before .arity .result) t (c .before .before .before .before .before .before .before .before .before .if1 .left) (search needs) (c .before .before .before .before .before .before .before .before .before .before .before .pre .0), (head-read (a .s .now) (a .at) (sym (c .before .before .before .before .before .before .before .before .head-at .ensures) ∙ h .1) .ends, c .before .before .before .before .before .before .before .before .before .before .before .pre .1)))  -- operands-requires
+    (λ c. let a = c .before .before .before .before .before .args in sym (by-head (a .s .now) (a .at) (a .free) (a .nodes .now) (a .depth) (c .before .before .before .if1 .left) (sym (c .enum-told .given .1) ∙ c .before .before .head-at .ensures)))  -- returns-3
+    (λ c. let a = c .before .before .before .before .before .before .before .before .before .before .before .before .args in let h = c .before .before .before .before .before .before .before .h .given in c .operands .ensures ∙ (λ i. fill.operands (fill.expression (a .s .now) (a .depth - 1)) (c .before .before .arity .ensures i) (h .0 .1 .1 .0) (a .free + 1) (c .before .before .before .put-node .ensures i)) ∙ sym (by-head (a .s .now) (a .at) (a .free) (a .nodes .now) (a .depth) (c .before .before .before .before .before .before .before .before .before .before .if1 .left) (sym (h .1) ∙ c .before .before .before .before .before .before .before .before .before .head-at .ensures) ∙ room (fill.expression (a .s .now) (a .depth - 1)) (h .0 .1 .1 .0) (a .free) (a .nodes .now) (h .0 .0) (h .0 .1 .0) (omega arith))))  -- returns-4
+    (λ t. operands-lts.spec (expression-below t, expression.Post, operands-below t, operands.Post)
+    (operands-at t)
+    operands.Post
+    (λ c. let a = c .before .before .args in sym (no-operand (fill.expression (a .s .now) (a .depth)) (a .at) (a .free) (a .nodes .now) (a .n) (c .if1 .taken)))  -- returns
+    (λ c. search needs)  -- add-expression
+    (λ c κs. (omega (arith, c .before .before .before .pre .0), c .before .before .before .pre .1 .1))  -- expression-requires
+    (λ c. search needs)  -- enum-known-r
+    (λ c. pos-of-ne-zero (c .before .before .before .before .before .if1 .left))  -- sub-operands
+    (λ c κs. let a = c .before .before .before .before .before .before .before .before .args in let e = c .before .before .before .before .expression in (omega (arith, pos-of-ne-zero (c .before .before .before .before .before .before .if1 .left), c .before .before .before .before .before .before .before .before .pre .0), (ends (a .s .now) (a .depth) (a .at + 1) (a .free) (a .nodes .now) (e .ensures) (c .before .before .r .given .1) .0, c .before .before .before .before .before .before .before .before .pre .1 .1)))  -- operands-requires
+    (λ c. search needs)  -- enum-told
+    (λ c. let a = c .before .before .before .before .before .before .before .before .before .args in let e = c .before .before .before .before .before .expression in c .operands .ensures ∙ sym (an-operand (fill.expression (a .s .now) (a .depth)) (a .at) (a .free) (a .nodes .now) (a .n) (c .before .before .before .before .before .before .before .if1 .left) (e .ensures) ∙ ap (λ (x : Filling). fill.onward (fill.out x (e .last .1 .1 .1 .1 .0)) (fill.operands (fill.expression (a .s .now) (a .depth)) (a .n - 1))) (c .before .before .before .r .given .1)))  -- returns-2
+    (λ c. let a = c .before .before .before .before .before .before .args in let e = c .before .before .expression in sym (an-operand (fill.expression (a .s .now) (a .depth)) (a .at) (a .free) (a .nodes .now) (a .n) (c .before .before .before .before .if1 .left) (e .ensures) ∙ ap (λ (x : Filling). fill.onward (fill.out x (e .last .1 .1 .1 .1 .0)) (fill.operands (fill.expression (a .s .now) (a .depth)) (a .n - 1))) (c .enum-told .given .1))))  -- returns-3

@@ -1,0 +1,17 @@
+-- `reader::fill_line` meets its contract: by the key, and by whether there is room for a body line. Assumes nothing.
+use Rattle.reader.proofs.Ways.{too-many}
+use Rattle.reader.proofs.fill_line.Statement.{statement}
+use Rattle.program.specs.Lines.{tablesOf}
+use borrow.Author.Needs.{needs}
+use mathlib.Core.Path.{sym}
+use Rattle.reader.proofs.fill_line.Tie as tie
+
+pub fill-line-spec : {M : Type 1} → statement M
+fill-line-spec =
+    tie.close
+    (tie.spec
+    (λ c κs. search needs)  -- header-line-requires
+    (λ c. let a = c .before .before .before .before .before .args in λ Z. c .header-line .ensures (tablesOf Z (a .nodes .now) (a .rows .now) (a .vars .now) (a .labels .now) (a .body .now)))  -- returns
+    (λ c. let a = c .before .before .before .before .args in λ Z. sym (too-many (a .s .now) (a .at) (a .c) (tablesOf Z (a .nodes .now) (a .rows .now) (a .vars .now) (a .labels .now) (a .body .now)) (a .k) (c .before .before .if1 .left) (c .if2 .taken)))  -- returns-2
+    (λ c κs. search needs)  -- body-line-requires
+    (λ c. let a = c .before .before .before .before .before .before .before .before .args in λ Z. c .body-line .ensures (tablesOf Z (a .nodes .now) (a .rows .now) (a .vars .now) (a .labels .now) (a .body .now))))  -- returns-3

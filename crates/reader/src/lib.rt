@@ -1,0 +1,839 @@
+// A glue text read into the tables of a program: each line's shape first, then its limits, with its numbers written on the way.
+use program::clear;
+use program::put_entry;
+use program::put_field;
+use program::put_label_line;
+use program::put_line;
+use program::put_node;
+use program::put_psi;
+use program::put_sizes;
+use program::put_var;
+use rules::Answer;
+use rules::Count;
+use rules::Filling;
+use rules::Head;
+use rules::Limits;
+use rules::Next;
+use rules::Reading;
+use shape::boxed_at;
+use shape::in_order;
+use shape::key_at;
+use shape::kind_word;
+use shape::line_shape;
+use shape::offset_at;
+use shape::part_of;
+use shape::psi_at;
+use shape::tag_at;
+use text::arity;
+use text::byte_at;
+use text::head_at;
+use text::next_of;
+use text::number_at;
+use text::plain_at;
+use text::value_of;
+use text::var_at;
+ghost use mathlib.Core.Path.{_≡_};
+ghost use mathlib.Core.Bool.{Bool, true, _&&_, _||_};
+ghost use mathlib.Core.List.{List};
+ghost use Prim.Native.Nat.{ℕ, _+_, _≤_, _<_};
+ghost use lib.Dec.{ltb, eqb};
+ghost use lib.ListN.{length};
+ghost use Rattle.rules.specs.When.{when};
+ghost use Rattle.rules.specs.Limits.{limits};
+ghost use Rattle.rules.specs.Text as texts;
+ghost use Rattle.rules.specs.Text.Words as words;
+ghost use Rattle.rules.specs.Text.Shape as shapes;
+ghost use Rattle.rules.specs.Text.Layout as layout;
+ghost use Rattle.rules.specs.Text.Fill as fills;
+ghost use Rattle.program.specs.Lines.{tablesOf};
+ghost use Rattle.reader.specs.Read.{Placed, Near, Worded, Within, Ready, Room, closed, Holds};
+
+// As many fields as a row may have, and the one after these, which is refused.
+const FIELD_TURNS: usize = Limits::PRODUCTS * Limits::WIDTH + 1;
+
+// One `ret=`, so many rows, variables and body lines can be right, and the line after these is refused.
+const LINE_TURNS: usize = 1 + Limits::ROWS + Limits::VARIABLES + Limits::LINES + 1;
+
+// A value that was read, and the place after the byte that follows it.
+struct Word {
+    value: u32,
+    past: usize,
+}
+
+// Within the limits or not, and the counts after it.
+struct Fill {
+    ok: bool,
+    count: Count,
+}
+
+// The same of the fields of a row: how many the text has by now.
+struct Row {
+    ok: bool,
+    total: usize,
+}
+
+// A line: its answer (0 goes on), the place after it, the counts.
+struct Lined {
+    answer: u32,
+    next: usize,
+    count: Count,
+}
+
+// ---- counts
+
+fn in_part(c: Count, p: u32) -> Count
+    ensures { λ r. ⌜ r ≡ layout.inPart c p ⌝ }
+{
+    let mut d = c;
+    d.part = p;
+    d
+}
+
+fn with_ret(c: Count, k: u32) -> Count
+    ensures { λ r. ⌜ r ≡ layout.withRet c k ⌝ }
+{
+    let mut d = c;
+    d.ret = k;
+    d
+}
+
+fn one_row(c: Count, total: usize) -> Count
+    requires { ⌜ c .rows < limits .rows ⌝ }
+    ensures { λ r. ⌜ r ≡ layout.oneRow c total ⌝ }
+{
+    let mut d = c;
+    d.rows = c.rows + 1;
+    d.fields = total;
+    d
+}
+
+fn one_var(c: Count) -> Count
+    requires { ⌜ c .vars < limits .variables ⌝ }
+    ensures { λ r. ⌜ r ≡ layout.oneVar c ⌝ }
+{
+    let mut d = c;
+    d.vars = c.vars + 1;
+    d
+}
+
+fn one_label(c: Count) -> Count
+    requires { ⌜ c .labels < limits .labels ⌝ }
+    ensures { λ r. ⌜ r ≡ layout.oneLabel c ⌝ }
+{
+    let mut d = c;
+    d.labels = c.labels + 1;
+    d
+}
+
+fn one_line(c: Count, free: usize) -> Count
+    requires { ⌜ c .lines < limits .lines ⌝ }
+    ensures { λ r. ⌜ r ≡ layout.oneLine c free ⌝ }
+{
+    let mut d = c;
+    d.lines = c.lines + 1;
+    d.nodes = free;
+    d
+}
+
+// ---- words
+
+// The place after the byte that follows what was read.
+fn past(r: Reading) -> usize
+    requires { ⌜ words.nextOf r ≤ 65536 ⌝ }
+    ensures { λ n. ⌜ n ≡ words.nextOf r + 1 ⌝ }
+{
+    next_of(r) + 1
+}
+
+fn word_of(r: Reading) -> Word
+    requires { ⌜ (words.valueOf r < 4294967296) × (words.nextOf r ≤ 65536) ⌝ }
+    ensures { λ w. ⌜ (w .value ≡ words.valueOf r) × (w .past ≡ words.nextOf r + 1) ⌝ }
+{
+    Word {
+        value: value_of(r) as u32,
+        past: past(r),
+    }
+}
+
+fn plain_word(s: &[u8], at: usize) -> Word
+    requires { ⌜ Near (now s) at ⌝ }
+    ensures { λ w. ⌜ Worded (now (s .entry)) at (words.valueOf (words.plainAt (now (s .entry)) at)) (words.nextOf (words.plainAt (now (s .entry)) at)) (w .value) (w .past) ⌝ }
+{
+    word_of(plain_at(s, at))
+}
+
+fn number_word(s: &[u8], at: usize) -> Word
+    requires { ⌜ Near (now s) at ⌝ }
+    ensures { λ w. ⌜ Worded (now (s .entry)) at (words.valueOf (words.numberAt (now (s .entry)) at)) (words.nextOf (words.numberAt (now (s .entry)) at)) (w .value) (w .past) ⌝ }
+{
+    word_of(number_at(s, at))
+}
+
+fn var_word(s: &[u8], at: usize) -> Word
+    requires { ⌜ Near (now s) at ⌝ }
+    ensures { λ w. ⌜ Worded (now (s .entry)) at (words.valueOf (words.varAt (now (s .entry)) at)) (words.nextOf (words.varAt (now (s .entry)) at)) (w .value) (w .past) ⌝ }
+{
+    word_of(var_at(s, at))
+}
+
+fn psi_word(s: &[u8], at: usize) -> Word
+    requires { ⌜ Near (now s) at ⌝ }
+    ensures { λ w. ⌜ Worded (now (s .entry)) at (words.valueOf (shapes.psiAt (now (s .entry)) at)) (words.nextOf (shapes.psiAt (now (s .entry)) at)) (w .value) (w .past) ⌝ }
+{
+    word_of(psi_at(s, at))
+}
+
+// A kind: its code.
+fn kind_code(s: &[u8], at: usize) -> Word
+    requires { ⌜ Placed (now s) at ⌝ }
+    ensures { λ w. ⌜ Worded (now (s .entry)) at (fills.kindValue (now (s .entry)) (shapes.kindWord (now (s .entry)) at)) (fills.kindNext (now (s .entry)) (shapes.kindWord (now (s .entry)) at)) (w .value) (w .past) ⌝ }
+{
+    let k = kind_word(s, at);
+    match k {
+        Reading::Bad(p) => Word {
+            value: 0,
+            past: p + 1,
+        },
+        Reading::Got(which, n) => {
+            if which == 0 {
+                return Word {
+                    value: 1,
+                    past: n + 1,
+                };
+            }
+            let w = plain_word(s, n);
+            Word {
+                value: w.value + 2,
+                past: w.past,
+            }
+        }
+    }
+}
+
+// ---- expressions: each node before its operands
+
+fn expression(s: &[u8], depth: usize, at: usize, free: usize, nodes: &mut [u64; 4096]) -> Filling
+    requires { ⌜ length (now s) ≤ 32768 ⌝ }
+    ensures { λ r. ⌜ fills.out r (now (nodes .exit)) ≡ fills.expression (now (s .entry)) depth at free (now (nodes .entry)) ⌝ }
+{
+    if depth == 0 {
+        return Filling::Limit;
+    }
+    let h = head_at(s, at);
+    match h {
+        Head::Not(_) => Filling::Limit,
+        Head::Node(op, a, n) => {
+            if Limits::NODES <= free {
+                return Filling::Limit;
+            }
+            put_node(nodes, free, op, a);
+            operands(s, depth - 1, arity(op), n, free + 1, nodes)
+        }
+    }
+}
+
+// n operands, each after a space.
+fn operands(
+    s: &[u8],
+    depth: usize,
+    n: usize,
+    at: usize,
+    free: usize,
+    nodes: &mut [u64; 4096],
+) -> Filling
+    requires { ⌜ (at ≤ length (now s)) × (length (now s) ≤ 32768) ⌝ }
+    ensures { λ r. ⌜ fills.out r (now (nodes .exit)) ≡ fills.operands (fills.expression (now (s .entry)) depth) n at free (now (nodes .entry)) ⌝ }
+{
+    if n == 0 {
+        return Filling::Got(at, free);
+    }
+    let r = expression(s, depth, at + 1, free, nodes);
+    match r {
+        Filling::Got(next, f) => operands(s, depth, n - 1, next, f, nodes),
+        Filling::Limit => Filling::Limit,
+    }
+}
+
+// ---- lines before the body
+
+fn fill_ret(s: &[u8], at: usize, c: Count) -> Fill
+    requires { ⌜ Placed (now s) at ⌝ }
+    ensures { λ r. ⌜ ((t : layout.Tables) → fills.filled (r .ok) (r .count) t ≡ fills.fillRet (now (s .entry)) at c t) ⌝ }
+{
+    let k = kind_code(s, at);
+    Fill {
+        ok: true,
+        count: with_ret(c, k.value),
+    }
+}
+
+fn add_var(c: Count, kind: u32, how: u32, number: u32, vars: &mut [u32; 96]) -> Fill
+    ensures { λ r. ⌜ ((t : layout.Tables) → fills.filled (r .ok) (r .count) (layout.withVars t (now (vars .exit))) ≡ fills.addVar c (layout.withVars t (now (vars .entry))) kind how number) ⌝ }
+{
+    if c.vars < Limits::VARIABLES {
+        put_var(vars, c.vars, kind, how, number);
+        Fill {
+            ok: true,
+            count: one_var(c),
+        }
+    } else {
+        Fill {
+            ok: false,
+            count: c,
+        }
+    }
+}
+
+fn fill_param(s: &[u8], at: usize, c: Count, vars: &mut [u32; 96]) -> Fill
+    requires { ⌜ Placed (now s) at ⌝ }
+    ensures { λ r. ⌜ ((t : layout.Tables) → fills.filled (r .ok) (r .count) (layout.withVars t (now (vars .exit))) ≡ fills.fillParam (now (s .entry)) at c (layout.withVars t (now (vars .entry)))) ⌝ }
+{
+    let k = kind_code(s, at);
+    add_var(c, k.value, 1, 0, vars)
+}
+
+fn fill_local(s: &[u8], at: usize, c: Count, vars: &mut [u32; 96]) -> Fill
+    requires { ⌜ Placed (now s) at ⌝ }
+    ensures { λ r. ⌜ ((t : layout.Tables) → fills.filled (r .ok) (r .count) (layout.withVars t (now (vars .exit))) ≡ fills.fillLocal (now (s .entry)) at c (layout.withVars t (now (vars .entry)))) ⌝ }
+{
+    let k = kind_code(s, at);
+    let n = number_word(s, k.past);
+    add_var(c, k.value, 2, n.value, vars)
+}
+
+// Whether field o of product k may come where the text has so many fields.
+fn fits(k: u8, o: u8, total: usize) -> bool
+    ensures { λ r. ⌜ r ≡ (ltb k (limits .products) && (ltb o (limits .width) && ltb total (limits .fields))) ⌝ }
+{
+    if Limits::PRODUCTS <= k as usize {
+        return false;
+    }
+    if Limits::WIDTH <= o as usize {
+        return false;
+    }
+    total < Limits::FIELDS
+}
+
+// Whether a byte stands between two field rows.
+fn between(b: u64) -> bool
+    ensures { λ r. ⌜ r ≡ (eqb b 44 || eqb b 124) ⌝ }
+{
+    if b == 44 { true } else { b == 124 }
+}
+
+// The product and the field after the byte between two field rows: a comma, or a bar.
+fn next_product(b: u64, k: u8) -> u8
+    requires { ⌜ k < limits .products ⌝ }
+    ensures { λ r. ⌜ r ≡ when (eqb b 44) (λ _. k) (λ _. k + 1) ⌝ }
+{
+    if b == 44 { k } else { k + 1 }
+}
+
+fn next_field(b: u64, o: u8) -> u8
+    requires { ⌜ o < limits .width ⌝ }
+    ensures { λ r. ⌜ r ≡ when (eqb b 44) (λ _. o + 1) (λ _. 0) ⌝ }
+{
+    if b == 44 { o + 1 } else { 0 }
+}
+
+// One turn a field row.
+fn fill_fields(s: &[u8], r: usize, total: usize, from: usize, rows: &mut [u32; 17536]) -> Row
+    ensures { λ x. ⌜ fills.fields (x .ok) (x .total) (now (rows .exit)) ≡ fills.fillFields (now (s .entry)) r 257 total (now (rows .entry)) 0 0 from ⌝ }
+{
+    let mut left = FIELD_TURNS;
+    let mut sum = total;
+    let mut k: u8 = 0;
+    let mut o: u8 = 0;
+    let mut at = from;
+    while 0 < left {
+        left -= 1;
+        if !fits(k, o, sum) {
+            return Row {
+                ok: false,
+                total: sum,
+            };
+        }
+        let q = plain_at(s, at);
+        put_field(rows, r, k, o, value_of(q) as u32);
+        sum += 1;
+        let n = next_of(q);
+        let b = byte_at(s, n);
+        if !between(b) {
+            return Row {
+                ok: true,
+                total: sum,
+            };
+        }
+        k = next_product(b, k);
+        o = next_field(b, o);
+        at = n + 1;
+    }
+    Row {
+        ok: false,
+        total: sum,
+    }
+}
+
+fn fill_products(s: &[u8], r: usize, total: usize, at: usize, rows: &mut [u32; 17536]) -> Row
+    ensures { λ x. ⌜ fills.fields (x .ok) (x .total) (now (rows .exit)) ≡ fills.fillProducts (now (s .entry)) r total (now (rows .entry)) at ⌝ }
+{
+    if byte_at(s, at) == 10 {
+        return Row {
+            ok: true,
+            total: total,
+        };
+    }
+    fill_fields(s, r, total, at, rows)
+}
+
+fn fill_type(s: &[u8], at: usize, c: Count, rows: &mut [u32; 17536]) -> Fill
+    requires { ⌜ Placed (now s) at ⌝ }
+    ensures { λ r. ⌜ ((t : layout.Tables) → fills.filled (r .ok) (r .count) (layout.withRows t (now (rows .exit))) ≡ fills.fillType (now (s .entry)) at c (layout.withRows t (now (rows .entry)))) ⌝ }
+{
+    if Limits::ROWS <= c.rows {
+        return Fill {
+            ok: false,
+            count: c,
+        };
+    }
+    let p = psi_word(s, at);
+    put_psi(rows, c.rows, p.value);
+    let f = fill_products(s, c.rows, c.fields, p.past, rows);
+    Fill {
+        ok: f.ok,
+        count: one_row(c, f.total),
+    }
+}
+
+// ---- lines of the body
+
+// A line without an expression.
+fn plain_line(c: Count, kind: u32, l: u32, v: u32, w: u32, body: &mut [u32; 2560]) -> Fill
+    requires { ⌜ c .lines < limits .lines ⌝ }
+    ensures { λ r. ⌜ ((t : layout.Tables) → fills.filled (r .ok) (r .count) (layout.withBody t (now (body .exit))) ≡ fills.plainLine c (layout.withBody t (now (body .entry))) kind l v w) ⌝ }
+{
+    put_line(body, c.lines, kind, l, v, w, 0);
+    Fill {
+        ok: true,
+        count: one_line(c, c.nodes),
+    }
+}
+
+// A line whose last expression stands at `at`; its first node is the first that the line wrote.
+fn expr_line(
+    s: &[u8],
+    c: Count,
+    kind: u32,
+    l: u32,
+    v: u32,
+    w: u32,
+    at: usize,
+    free: usize,
+    nodes: &mut [u64; 4096],
+    body: &mut [u32; 2560],
+) -> Fill
+    requires { ⌜ (length (now s) ≤ limits .bytes) × ((c .lines < limits .lines) × (c .nodes ≤ limits .nodes)) ⌝ }
+    ensures { λ r. ⌜ ((t : layout.Tables) → fills.filled (r .ok) (r .count) (layout.withBody (layout.withNodes t (now (nodes .exit))) (now (body .exit))) ≡ fills.exprLine c (layout.withBody t (now (body .entry))) kind l v w (fills.expression (now (s .entry)) (limits .depth) at free (now (nodes .entry)))) ⌝ }
+{
+    let e = expression(s, Limits::DEPTH, at, free, nodes);
+    match e {
+        Filling::Limit => Fill {
+            ok: false,
+            count: c,
+        },
+        Filling::Got(_, f) => {
+            put_line(body, c.lines, kind, l, v, w, c.nodes as u32);
+            Fill {
+                ok: true,
+                count: one_line(c, f),
+            }
+        }
+    }
+}
+
+fn fill_set(s: &[u8], at: usize, c: Count, nodes: &mut [u64; 4096], body: &mut [u32; 2560]) -> Fill
+    requires { ⌜ Room (now s) at c ⌝ }
+    ensures { λ r. ⌜ ((t : layout.Tables) → fills.filled (r .ok) (r .count) (layout.withBody (layout.withNodes t (now (nodes .exit))) (now (body .exit))) ≡ fills.fillSet (now (s .entry)) at c (layout.withBody (layout.withNodes t (now (nodes .entry))) (now (body .entry)))) ⌝ }
+{
+    let v = var_word(s, at);
+    expr_line(s, c, 1, 0, v.value, 0, v.past, c.nodes, nodes, body)
+}
+
+fn fill_put(s: &[u8], at: usize, c: Count, nodes: &mut [u64; 4096], body: &mut [u32; 2560]) -> Fill
+    requires { ⌜ Room (now s) at c ⌝ }
+    ensures { λ r. ⌜ ((t : layout.Tables) → fills.filled (r .ok) (r .count) (layout.withBody (layout.withNodes t (now (nodes .exit))) (now (body .exit))) ≡ fills.fillPut (now (s .entry)) at c (layout.withBody (layout.withNodes t (now (nodes .entry))) (now (body .entry)))) ⌝ }
+{
+    let e = expression(s, Limits::DEPTH, at, c.nodes, nodes);
+    match e {
+        Filling::Limit => Fill {
+            ok: false,
+            count: c,
+        },
+        Filling::Got(n, f) => {
+            let w = number_word(s, n + 1);
+            expr_line(s, c, 2, 0, 0, w.value, w.past, f, nodes, body)
+        }
+    }
+}
+
+fn fill_goto(s: &[u8], at: usize, c: Count, body: &mut [u32; 2560]) -> Fill
+    requires { ⌜ Room (now s) at c ⌝ }
+    ensures { λ r. ⌜ ((t : layout.Tables) → fills.filled (r .ok) (r .count) (layout.withBody t (now (body .exit))) ≡ fills.fillGoto (now (s .entry)) at c (layout.withBody t (now (body .entry)))) ⌝ }
+{
+    let l = plain_word(s, at);
+    plain_line(c, 3, l.value, 0, 0, body)
+}
+
+fn fill_if(s: &[u8], at: usize, c: Count, nodes: &mut [u64; 4096], body: &mut [u32; 2560]) -> Fill
+    requires { ⌜ Room (now s) at c ⌝ }
+    ensures { λ r. ⌜ ((t : layout.Tables) → fills.filled (r .ok) (r .count) (layout.withBody (layout.withNodes t (now (nodes .exit))) (now (body .exit))) ≡ fills.fillIf (now (s .entry)) at c (layout.withBody (layout.withNodes t (now (nodes .entry))) (now (body .entry)))) ⌝ }
+{
+    let l = plain_word(s, at);
+    expr_line(s, c, 4, l.value, 0, 0, l.past, c.nodes, nodes, body)
+}
+
+fn fill_ifimm(s: &[u8], at: usize, c: Count, body: &mut [u32; 2560]) -> Fill
+    requires { ⌜ Room (now s) at c ⌝ }
+    ensures { λ r. ⌜ ((t : layout.Tables) → fills.filled (r .ok) (r .count) (layout.withBody t (now (body .exit))) ≡ fills.fillIfimm (now (s .entry)) at c (layout.withBody t (now (body .entry)))) ⌝ }
+{
+    let l = plain_word(s, at);
+    let v = var_word(s, l.past);
+    plain_line(c, 5, l.value, v.value, 0, body)
+}
+
+// `iftag=`, `ifint=`
+fn fill_test(kind: u32, s: &[u8], at: usize, c: Count, body: &mut [u32; 2560]) -> Fill
+    requires { ⌜ Room (now s) at c ⌝ }
+    ensures { λ r. ⌜ ((t : layout.Tables) → fills.filled (r .ok) (r .count) (layout.withBody t (now (body .exit))) ≡ fills.fillTest kind (now (s .entry)) at c (layout.withBody t (now (body .entry)))) ⌝ }
+{
+    let l = plain_word(s, at);
+    let v = var_word(s, l.past);
+    let w = number_word(s, v.past);
+    plain_line(c, kind, l.value, v.value, w.value, body)
+}
+
+fn fill_return(
+    s: &[u8],
+    at: usize,
+    c: Count,
+    nodes: &mut [u64; 4096],
+    body: &mut [u32; 2560],
+) -> Fill
+    requires { ⌜ Room (now s) at c ⌝ }
+    ensures { λ r. ⌜ ((t : layout.Tables) → fills.filled (r .ok) (r .count) (layout.withBody (layout.withNodes t (now (nodes .exit))) (now (body .exit))) ≡ fills.fillReturn (now (s .entry)) at c (layout.withBody (layout.withNodes t (now (nodes .entry))) (now (body .entry)))) ⌝ }
+{
+    expr_line(s, c, 8, 0, 0, 0, at, c.nodes, nodes, body)
+}
+
+// One turn an entry.
+fn fill_entries(s: &[u8], l: usize, count: usize, from: usize, labels: &mut [u64; 6208])
+    requires { ⌜ Placed (now s) from × (count ≤ limits .variables) ⌝ }
+    ensures { λ u. ⌜ now (labels .exit) ≡ fills.fillEntries (now (s .entry)) l count 0 (now (labels .entry)) from ⌝ }
+{
+    let mut more = count;
+    let mut v = 0;
+    let mut at = from;
+    while 0 < more {
+        more -= 1;
+        let b = boxed_at(s, at);
+        let i = offset_at(s, past(b));
+        let g = tag_at(s, past(i));
+        put_entry(labels, l, v, value_of(b), value_of(i), value_of(g));
+        at = past(g);
+        v += 1;
+    }
+}
+
+fn fill_label(
+    s: &[u8],
+    at: usize,
+    c: Count,
+    labels: &mut [u64; 6208],
+    body: &mut [u32; 2560],
+) -> Fill
+    requires { ⌜ Room (now s) at c ⌝ }
+    ensures { λ r. ⌜ ((t : layout.Tables) → fills.filled (r .ok) (r .count) (layout.withBody (layout.withLabels t (now (labels .exit))) (now (body .exit))) ≡ fills.fillLabel (now (s .entry)) at c (layout.withBody (layout.withLabels t (now (labels .entry))) (now (body .entry)))) ⌝ }
+{
+    if Limits::LABELS <= c.labels {
+        return Fill {
+            ok: false,
+            count: c,
+        };
+    }
+    put_label_line(labels, c.labels, c.lines as u64 + 1);
+    fill_entries(s, c.labels, c.vars, at, labels);
+    let f = plain_line(c, 9, c.labels as u32, 0, 0, body);
+    let d = f.count;
+    Fill {
+        ok: f.ok,
+        count: one_label(d),
+    }
+}
+
+// ---- a line by its key
+
+fn header_line(
+    s: &[u8],
+    k: u64,
+    at: usize,
+    c: Count,
+    rows: &mut [u32; 17536],
+    vars: &mut [u32; 96],
+) -> Fill
+    requires { ⌜ Placed (now s) at × ((1 ≤ k) × (k < 5)) ⌝ }
+    ensures { λ r. ⌜ ((t : layout.Tables) → fills.filled (r .ok) (r .count) (layout.withVars (layout.withRows t (now (rows .exit))) (now (vars .exit))) ≡ fills.fillLine (now (s .entry)) (shapes.keyOf k) at c (layout.withVars (layout.withRows t (now (rows .entry))) (now (vars .entry)))) ⌝ }
+{
+    match k {
+        1 => fill_ret(s, at, c),
+        2 => fill_type(s, at, c, rows),
+        3 => fill_param(s, at, c, vars),
+        _ => fill_local(s, at, c, vars),
+    }
+}
+
+fn body_line(
+    s: &[u8],
+    k: u64,
+    at: usize,
+    c: Count,
+    nodes: &mut [u64; 4096],
+    labels: &mut [u64; 6208],
+    body: &mut [u32; 2560],
+) -> Fill
+    requires { ⌜ Room (now s) at c × ((5 ≤ k) × (k ≤ 13)) ⌝ }
+    ensures { λ r. ⌜ ((t : layout.Tables) → fills.filled (r .ok) (r .count) (layout.withBody (layout.withLabels (layout.withNodes t (now (nodes .exit))) (now (labels .exit))) (now (body .exit))) ≡ fills.fillLine (now (s .entry)) (shapes.keyOf k) at c (layout.withBody (layout.withLabels (layout.withNodes t (now (nodes .entry))) (now (labels .entry))) (now (body .entry)))) ⌝ }
+{
+    match k {
+        5 => fill_set(s, at, c, nodes, body),
+        6 => fill_put(s, at, c, nodes, body),
+        7 => fill_goto(s, at, c, body),
+        8 => fill_if(s, at, c, nodes, body),
+        9 => fill_ifimm(s, at, c, body),
+        10 => fill_test(6, s, at, c, body),
+        11 => fill_test(7, s, at, c, body),
+        12 => fill_return(s, at, c, nodes, body),
+        _ => fill_label(s, at, c, labels, body),
+    }
+}
+
+fn fill_line(
+    s: &[u8],
+    k: u64,
+    at: usize,
+    c: Count,
+    nodes: &mut [u64; 4096],
+    rows: &mut [u32; 17536],
+    vars: &mut [u32; 96],
+    labels: &mut [u64; 6208],
+    body: &mut [u32; 2560],
+) -> Fill
+    requires { ⌜ Ready (now s) at c × ((1 ≤ k) × (k ≤ 13)) ⌝ }
+    ensures { λ r. ⌜ ((Z : List ℕ) → fills.filled (r .ok) (r .count) (tablesOf Z (now (nodes .exit)) (now (rows .exit)) (now (vars .exit)) (now (labels .exit)) (now (body .exit))) ≡ fills.fillLine (now (s .entry)) (shapes.keyOf k) at c (tablesOf Z (now (nodes .entry)) (now (rows .entry)) (now (vars .entry)) (now (labels .entry)) (now (body .entry)))) ⌝ }
+{
+    if k < 5 {
+        return header_line(s, k, at, c, rows, vars);
+    }
+    if Limits::LINES <= c.lines {
+        return Fill {
+            ok: false,
+            count: c,
+        };
+    }
+    body_line(s, k, at, c, nodes, labels, body)
+}
+
+// ---- a line, whole
+
+fn refused(answer: u32, next: usize, c: Count) -> Lined
+    ensures { λ r. ⌜ ((t : layout.Tables) → texts.lined (r .answer) (r .next) (r .count) t ≡ texts.lined answer next c t) ⌝ }
+{
+    Lined {
+        answer: answer,
+        next: next,
+        count: c,
+    }
+}
+
+fn limited(k: u64, next: usize, f: Fill) -> Lined
+    ensures { λ r. ⌜ ((t : layout.Tables) → texts.lined (r .answer) (r .next) (r .count) t ≡ texts.limited k next (fills.filled (f .ok) (f .count) t)) ⌝ }
+{
+    let c = f.count;
+    if f.ok {
+        Lined {
+            answer: 0,
+            next: next,
+            count: in_part(c, part_of(k)),
+        }
+    } else {
+        refused(3, next, c)
+    }
+}
+
+// A line whose shape is right up to n.
+fn shaped_line(
+    s: &[u8],
+    k: u64,
+    at: usize,
+    n: usize,
+    c: Count,
+    nodes: &mut [u64; 4096],
+    rows: &mut [u32; 17536],
+    vars: &mut [u32; 96],
+    labels: &mut [u64; 6208],
+    body: &mut [u32; 2560],
+) -> Lined
+    requires { ⌜ Ready (now s) at c × ((1 ≤ k) × (k ≤ 13)) ⌝ }
+    ensures { λ r. ⌜ ((Z : List ℕ) → texts.lined (r .answer) (r .next) (r .count) (tablesOf Z (now (nodes .exit)) (now (rows .exit)) (now (vars .exit)) (now (labels .exit)) (now (body .exit))) ≡ texts.shaped (now (s .entry)) k at c (tablesOf Z (now (nodes .entry)) (now (rows .entry)) (now (vars .entry)) (now (labels .entry)) (now (body .entry))) (Next.At n)) ⌝ }
+{
+    if byte_at(s, n) != 10 {
+        return refused(2, n, c);
+    }
+    let f = fill_line(s, k, at, c, nodes, rows, vars, labels, body);
+    limited(k, n + 1, f)
+}
+
+// A line from the place after its key on.
+fn keyed_line(
+    s: &[u8],
+    start: usize,
+    k: u64,
+    at: usize,
+    c: Count,
+    nodes: &mut [u64; 4096],
+    rows: &mut [u32; 17536],
+    vars: &mut [u32; 96],
+    labels: &mut [u64; 6208],
+    body: &mut [u32; 2560],
+) -> Lined
+    requires { ⌜ Ready (now s) at c × ((1 ≤ k) × (k ≤ 13)) ⌝ }
+    ensures { λ r. ⌜ ((Z : List ℕ) → texts.lined (r .answer) (r .next) (r .count) (tablesOf Z (now (nodes .exit)) (now (rows .exit)) (now (vars .exit)) (now (labels .exit)) (now (body .exit))) ≡ texts.keyed (now (s .entry)) start c (tablesOf Z (now (nodes .entry)) (now (rows .entry)) (now (vars .entry)) (now (labels .entry)) (now (body .entry))) (Reading.Got k at)) ⌝ }
+{
+    if !in_order(c.part, k) {
+        return refused(2, start, c);
+    }
+    let x = line_shape(s, c.vars, k, at);
+    match x {
+        Next::At(n) => shaped_line(s, k, at, n, c, nodes, rows, vars, labels, body),
+        Next::Bad(p) => refused(2, p, c),
+    }
+}
+
+fn line_at(
+    s: &[u8],
+    at: usize,
+    c: Count,
+    nodes: &mut [u64; 4096],
+    rows: &mut [u32; 17536],
+    vars: &mut [u32; 96],
+    labels: &mut [u64; 6208],
+    body: &mut [u32; 2560],
+) -> Lined
+    requires { ⌜ Ready (now s) at c ⌝ }
+    ensures { λ r. ⌜ ((Z : List ℕ) → texts.lined (r .answer) (r .next) (r .count) (tablesOf Z (now (nodes .exit)) (now (rows .exit)) (now (vars .exit)) (now (labels .exit)) (now (body .exit))) ≡ texts.lineAt (now (s .entry)) at c (tablesOf Z (now (nodes .entry)) (now (rows .entry)) (now (vars .entry)) (now (labels .entry)) (now (body .entry)))) ⌝ }
+{
+    let w = key_at(s, at);
+    match w {
+        Reading::Got(k, n) => keyed_line(s, at, k, n, c, nodes, rows, vars, labels, body),
+        Reading::Bad(p) => refused(2, p, c),
+    }
+}
+
+// ---- the text, whole
+
+// After the last line the sizes are written, unless there was no line.
+fn ended(c: Count, size: &mut [u32; 6]) -> Answer
+    requires { ⌜ Within c ⌝ }
+    ensures { λ r. ⌜ ((t : layout.Tables) → closed r (tablesOf (now (size .exit)) (t .nodes) (t .rows) (t .vars) (t .labels) (t .body)) ≡ texts.ended c t) ⌝ }
+{
+    if c.part == 0 {
+        return Answer { number: 2, line: 1 };
+    }
+    put_sizes(
+        size,
+        c.ret,
+        c.rows as u32,
+        c.vars as u32,
+        c.labels as u32,
+        c.lines as u32,
+        c.nodes as u32,
+    );
+    Answer { number: 0, line: 0 }
+}
+
+// One turn a line.
+fn lines(
+    s: &[u8],
+    size: &mut [u32; 6],
+    nodes: &mut [u64; 4096],
+    rows: &mut [u32; 17536],
+    vars: &mut [u32; 96],
+    labels: &mut [u64; 6208],
+    body: &mut [u32; 2560],
+) -> Answer
+    requires { ⌜ length (now s) ≤ limits .bytes ⌝ }
+    ensures { λ r. ⌜ closed r (tablesOf (now (size .exit)) (now (nodes .exit)) (now (rows .exit)) (now (vars .exit)) (now (labels .exit)) (now (body .exit))) ≡ texts.linesFrom (now (s .entry)) (texts.mostLines + 1) 1 0 layout.nothing (tablesOf (now (size .entry)) (now (nodes .entry)) (now (rows .entry)) (now (vars .entry)) (now (labels .entry)) (now (body .entry))) ⌝ }
+{
+    let mut left = LINE_TURNS;
+    let mut line = 1;
+    let mut at = 0;
+    let mut c = nothing();
+    while 0 < left {
+        left -= 1;
+        if s.len() <= at {
+            return ended(c, size);
+        }
+        let r = line_at(s, at, c, nodes, rows, vars, labels, body);
+        let number = r.answer;
+        if number != 0 {
+            return Answer {
+                number: number,
+                line: line,
+            };
+        }
+        line += 1;
+        at = r.next;
+        c = r.count;
+    }
+    Answer {
+        number: 3,
+        line: line,
+    }
+}
+
+fn nothing() -> Count
+    ensures { λ r. ⌜ r ≡ layout.nothing ⌝ }
+{
+    Count {
+        part: 0,
+        ret: 0,
+        rows: 0,
+        fields: 0,
+        vars: 0,
+        labels: 0,
+        lines: 0,
+        nodes: 0,
+    }
+}
+
+// Answers 1 to 3, or 0 with the program in the tables. Whatever they held before, they are all 0 on a refusal.
+pub fn read(
+    s: &[u8],
+    size: &mut [u32; 6],
+    nodes: &mut [u64; 4096],
+    rows: &mut [u32; 17536],
+    vars: &mut [u32; 96],
+    labels: &mut [u64; 6208],
+    body: &mut [u32; 2560],
+) -> Answer
+    ensures { λ r. ⌜ Holds (texts.readText (now (s .entry))) r (now (size .exit)) (now (nodes .exit)) (now (rows .exit)) (now (vars .exit)) (now (labels .exit)) (now (body .exit)) ⌝ }
+{
+    clear(size, nodes, rows, vars, labels, body);
+    if Limits::BYTES < s.len() {
+        return Answer { number: 1, line: 0 };
+    }
+    let a = lines(s, size, nodes, rows, vars, labels, body);
+    if a.number != 0 {
+        clear(size, nodes, rows, vars, labels, body);
+    }
+    a
+}
