@@ -1,8 +1,7 @@
 // Many texts from standard input: for each its length in bytes, in decimal, a line feed, then that many bytes.
-// A line is printed for each: the number and the line of its answer, as far as the names (1 to 5).
-ghost use mathlib.Core.Path.{_≡_};
-ghost use Rattle.glue.specs.Named.{readNamed};
-use libc::{STDIN_FILENO, STDOUT_FILENO};
+// A line is printed for each: the number and the line of its answer.
+use libc::STDIN_FILENO;
+use libc::STDOUT_FILENO;
 use rules::Answer;
 
 // The next byte of the input, 256 at its end.
@@ -76,27 +75,6 @@ fn pass_over(n: usize) {
     }
 }
 
-// Answers 1 to 5; 0 where a text passes these stages.
-fn judged(text: &[u8]) -> Answer
-    ensures { λ r. ⌜ r ≡ readNamed (now (text .entry)) .answer ⌝ }
-{
-    let mut size = [0u32; 6];
-    let mut nodes = [0u64; 4096];
-    let mut rows = [0u32; 17536];
-    let mut vars = [0u32; 96];
-    let mut labels = [0u64; 6208];
-    let mut body = [0u32; 2560];
-    glue::read(
-        text,
-        &mut size,
-        &mut nodes,
-        &mut rows,
-        &mut vars,
-        &mut labels,
-        &mut body,
-    )
-}
-
 fn show(a: Answer) {
     io::print_decimal(STDOUT_FILENO, a.number as u64);
     io::write_all(STDOUT_FILENO, b" ");
@@ -117,7 +95,7 @@ fn one_text(n: usize) {
 
 fn judge_first(text: &[u8], n: usize) {
     if n <= text.len() {
-        show(judged(&text[..n]));
+        show(checker::answer(&text[..n]));
     }
 }
 

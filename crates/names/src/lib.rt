@@ -95,7 +95,6 @@ fn products_there(size: &[u32; 6], rows: &[u32; 17536], r: usize) -> bool
 
 // ---- labels
 
-
 fn entry_suits(k: Kind, e: Entry) -> bool
     ensures { λ b. ⌜ b ≡ entrySuits k e ⌝ }
 {

@@ -1,11 +1,8 @@
+-- `corpus::main` meets its contract: the texts are counted up to a bound, so that the program ends. Assumes nothing.
 use Prim.Native.Nat.{_≤_, _-_}
 use borrow.Author.Needs.{needs}
 use Rattle.corpus.proofs.main.Statement.{statement}
 use Rattle.corpus.proofs.main.Tie as tie
-use Rattle.corpus.proofs.main.Reads as reads
-use Rattle.corpus.proofs.main.Lts as lts
-use Rattle.corpus.proofs.next_length.Reads as next-length-reads
-use Rattle.corpus.proofs.one_text.Reads as one-text-reads
 
 abbrev Inv-loop : tie.InvT-loop
 Inv-loop texts₀ texts = texts ≤ 1000000
@@ -13,43 +10,33 @@ Inv-loop texts₀ texts = texts ≤ 1000000
 abbrev μ-loop : tie.MeasureT-loop
 μ-loop texts₀ texts = 1000000 - texts
 
--- src/main.rt:107:5
 loop-holds : tie.Need-loop-holds Inv-loop μ-loop
 loop-holds c = search needs
 
--- src/main.rt:108:13
 next-length-requires : tie.Need-next-length-requires Inv-loop μ-loop
 next-length-requires c κs = search needs
 
--- src/main.rt:110:24
 enum-known-length : tie.Need-enum-known-length Inv-loop μ-loop
 enum-known-length c = search needs
 
--- src/main.rt:110:30
 one-text-requires : tie.Need-one-text-requires Inv-loop μ-loop
 one-text-requires c κs = search needs
 
--- src/main.rt:111:28
 enum-told : tie.Need-enum-told Inv-loop μ-loop
 enum-told c = search needs
 
--- src/main.rt:111:28
 returns : tie.Need-returns Inv-loop μ-loop
 returns c = search needs
 
--- src/main.rt:113:9
 add-texts : tie.Need-add-texts Inv-loop μ-loop
 add-texts c = search needs
 
--- src/main.rt:107:5
 loop-less : tie.Need-loop-less Inv-loop μ-loop
 loop-less c = search needs
 
--- src/main.rt:107:5
 loop-again : tie.Need-loop-again Inv-loop μ-loop
 loop-again c = search needs
 
--- src/main.rt:105:1
 returns-2 : tie.Need-returns-2 Inv-loop μ-loop
 returns-2 c = search needs
 

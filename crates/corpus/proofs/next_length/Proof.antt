@@ -1,10 +1,8 @@
+-- `corpus::next_length` meets its contract: at most eight bytes are read, and the number stays below 100000000. Assumes nothing.
 use Prim.Native.Nat.{_<_, _≤_, _-_}
 use borrow.Author.Needs.{needs}
 use Rattle.corpus.proofs.next_length.Statement.{statement}
 use Rattle.corpus.proofs.next_length.Tie as tie
-use Rattle.corpus.proofs.next_length.Reads as reads
-use Rattle.corpus.proofs.next_length.Lts as lts
-use Rattle.corpus.proofs.next_byte.Reads as next-byte-reads
 
 abbrev Inv-loop : tie.InvT-loop
 Inv-loop n₀ digits₀ n digits = (n < 100000000) × (digits ≤ 8)
@@ -12,51 +10,39 @@ Inv-loop n₀ digits₀ n digits = (n < 100000000) × (digits ≤ 8)
 abbrev μ-loop : tie.MeasureT-loop
 μ-loop n₀ digits₀ n digits = 8 - digits
 
--- src/main.rt:27:5
 loop-holds : tie.Need-loop-holds Inv-loop μ-loop
 loop-holds c = search needs
 
--- src/main.rt:28:13
 next-byte-requires : tie.Need-next-byte-requires Inv-loop μ-loop
 next-byte-requires c κs = search needs
 
--- src/main.rt:31:17
 returns : tie.Need-returns Inv-loop μ-loop
 returns c = search needs
 
--- src/main.rt:33:13
 returns-2 : tie.Need-returns-2 Inv-loop μ-loop
 returns-2 c = search needs
 
--- src/main.rt:36:13
 returns-3 : tie.Need-returns-3 Inv-loop μ-loop
 returns-3 c = search needs
 
--- src/main.rt:39:13
 returns-4 : tie.Need-returns-4 Inv-loop μ-loop
 returns-4 c = search needs
 
--- src/main.rt:41:14
 mul-n : tie.Need-mul-n Inv-loop μ-loop
 mul-n c = search needs
 
--- src/main.rt:41:14
 add-n : tie.Need-add-n Inv-loop μ-loop
 add-n c = search needs
 
--- src/main.rt:42:9
 add-digits : tie.Need-add-digits Inv-loop μ-loop
 add-digits c = search needs
 
--- src/main.rt:27:5
 loop-less : tie.Need-loop-less Inv-loop μ-loop
 loop-less c = search needs
 
--- src/main.rt:27:5
 loop-again : tie.Need-loop-again Inv-loop μ-loop
 loop-again c = search needs
 
--- src/main.rt:24:1
 returns-5 : tie.Need-returns-5 Inv-loop μ-loop
 returns-5 c = search needs
 

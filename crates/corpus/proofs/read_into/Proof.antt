@@ -1,42 +1,32 @@
+-- `corpus::read_into` meets its contract: the part that is lent is as long as it says. Assumes nothing.
 use mathlib.Core.Path.{sym}
 use borrow.Table.Elements.{length-take-le}
 use native.Mathlib.Nat.{le-of-lt}
 use borrow.Author.Needs.{needs}
 use Rattle.corpus.proofs.read_into.Statement.{statement}
 use Rattle.corpus.proofs.read_into.Tie as tie
-use Rattle.corpus.proofs.read_into.Reads as reads
-use Rattle.corpus.proofs.read_into.Lts as lts
-use Rattle.io.proofs.read_full.Reads as read-full-reads
 
--- src/main.rt:56:37
 slice-relend-prefix-read-full : tie.Need-slice-relend-prefix-read-full
 slice-relend-prefix-read-full c = search needs
 
--- src/main.rt:56:37
 slice-aggregate-read-full : tie.Need-slice-aggregate-read-full
 slice-aggregate-read-full c = sym (length-take-le (c .before .before .before .args .most) (c .before .before .before .args .chunk .now) (le-of-lt (c .before .if1 .taken)))
 
--- src/main.rt:56:9
 read-full-requires : tie.Need-read-full-requires
 read-full-requires c κs = search needs
 
--- src/main.rt:58:9
 read-full-requires-2 : tie.Need-read-full-requires-2
 read-full-requires-2 c κs = search needs
 
--- src/main.rt:54:1
 same-length : tie.Need-same-length
 same-length c = search needs
 
--- src/main.rt:54:1
 returns : tie.Need-returns
 returns c = search needs
 
--- src/main.rt:54:1
 same-length-2 : tie.Need-same-length-2
 same-length-2 c = search needs
 
--- src/main.rt:54:1
 returns-2 : tie.Need-returns-2
 returns-2 c = search needs
 

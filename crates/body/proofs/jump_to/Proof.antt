@@ -1,0 +1,13 @@
+use mathlib.Core.Path.{_∙_, refl, sym}
+use borrow.Author.Needs.{needs}
+use Rattle.body.proofs.jump_to.Statement.{statement}
+use Rattle.body.proofs.jump_to.Tie as tie
+
+pub jump-to-spec : {M : Type 1} → statement M
+jump-to-spec =
+    tie.close
+    (tie.spec
+    (λ c κs. search needs)  -- lands-requires
+    (λ c κs. search needs)  -- refused-requires
+    (λ c. rw (sym (c .before .lands .ensures) ∙ c .if1 .taken) refl)  -- returns
+    (λ c. rw (sym (c .before .before .lands .ensures) ∙ c .before .if1 .left) (c .refused .ensures)))  -- returns-2

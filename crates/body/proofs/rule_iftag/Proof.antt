@@ -1,0 +1,22 @@
+use Rattle.rules.specs.Body.{ruleIftag}
+use mathlib.Core.Path.{_∙_, sym}
+use borrow.Author.Needs.{needs}
+use Rattle.body.proofs.rule_iftag.Statement.{statement}
+use Rattle.body.proofs.rule_iftag.Tie as tie
+
+pub rule-iftag-spec : {M : Type 1} → statement M
+unfolding ruleIftag
+rule-iftag-spec =
+    tie.close
+    (tie.spec
+    (λ c κs. search needs)  -- var-judged-requires
+    (λ c. search needs)  -- enum-known-a
+    (λ c κs. search needs)  -- refused-requires
+    (λ c. search needs)  -- enum-known-k
+    (λ c. search needs)  -- enum-told
+    (λ c κs. search needs)  -- refused-requires-2
+    (λ c. search needs)  -- enum-known-k-2
+    (λ c κs. search needs)  -- tag-test-requires
+    (λ c. rw (sym (c .before .before .before .before .var-judged .ensures) ∙ c .before .before .a .given .1) (c .refused .ensures))  -- returns
+    (λ c. rw (sym (c .before .before .before .before .before .before .var-judged .ensures) ∙ c .before .before .before .before .k .given .1) (rw (c .before .enum-told .given .1) (c .refused2 .ensures)))  -- returns-2
+    (λ c. rw (sym (c .before .before .before .before .before .before .before .var-judged .ensures) ∙ c .before .before .before .before .before .k .given .1) (rw (c .before .before .k2 .given .1) (c .tag-test .ensures))))  -- returns-3

@@ -1,0 +1,19 @@
+use Rattle.body.specs.Lines.{labelLine}
+use mathlib.Core.Path.{_∙_, sym}
+use borrow.Author.Needs.{needs}
+use Rattle.body.proofs.rule_label.Statement.{statement}
+use Rattle.body.proofs.rule_label.Tie as tie
+
+pub rule-label-spec : {M : Type 1} → statement M
+unfolding labelLine
+rule-label-spec =
+    tie.close
+    (tie.spec
+    (λ c κs. search needs)  -- label-env-requires
+    (λ c κs. search needs)  -- covers-env-requires
+    (λ c κs. search needs)  -- went-requires
+    (λ c κs. search needs)  -- refused-requires
+    (λ c κs. search needs)  -- went-requires-2
+    (λ c. λ D. rw (sym (c .before .before .before .before .label-env .ensures D)) (rw (c .before .before .before .if1 .taken) (rw (sym (c .before .before .covers-env .ensures) ∙ c .before .if2 .taken) (c .went .ensures))))  -- returns
+    (λ c. λ D. rw (sym (c .before .before .before .before .label-env .ensures D)) (rw (c .before .before .before .if1 .taken) (rw (sym (c .before .before .covers-env .ensures) ∙ c .before .if2 .left) (c .refused .ensures))))  -- returns-2
+    (λ c. λ D. rw (sym (c .before .before .label-env .ensures D)) (rw (c .before .if1 .left) (c .went2 .ensures))))  -- returns-3

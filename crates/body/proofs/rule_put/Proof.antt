@@ -1,0 +1,14 @@
+use Rattle.body.proofs.Laws.{after-of, tree-of}
+use mathlib.Core.Path.{sym}
+use borrow.Author.Needs.{needs}
+use Rattle.body.proofs.rule_put.Statement.{statement}
+use Rattle.body.proofs.rule_put.Tie as tie
+
+pub rule-put-spec : {M : Type 1} → statement M
+rule-put-spec =
+    tie.close
+    (tie.spec
+    (λ c κs. search needs)  -- judge-at-requires
+    (λ c κs. search needs)  -- judged-requires
+    (λ c κs. search needs)  -- put-judged-requires
+    (λ c. rw (sym (tree-of _ _ _ _ _ _ _ (c .before .before .judge-at .ensures)), sym (after-of _ _ _ _ _ _ _ (c .before .before .judge-at .ensures)), sym (c .before .judged .ensures)) (c .put-judged .ensures)))  -- returns

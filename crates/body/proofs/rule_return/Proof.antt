@@ -1,0 +1,25 @@
+use Rattle.rules.specs.Body.{ruleReturn}
+use mathlib.Core.Path.{_∙_, sym}
+use borrow.Author.Needs.{needs}
+use Rattle.body.proofs.rule_return.Statement.{statement}
+use Rattle.body.proofs.rule_return.Tie as tie
+
+pub rule-return-spec : {M : Type 1} → statement M
+unfolding ruleReturn
+rule-return-spec =
+    tie.close
+    (tie.spec
+    (λ c κs. search needs)  -- judged-requires
+    (λ c. search needs)  -- enum-known-n
+    (λ c κs. search needs)  -- refused-requires
+    (λ c. search needs)  -- enum-known-q
+    (λ c κs. search needs)  -- ret-kind-requires
+    (λ c κs. search needs)  -- same-kind-requires
+    (λ c κs. search needs)  -- zero-offset-requires
+    (λ c κs. search needs)  -- went-requires
+    (λ c κs. search needs)  -- refused-requires-2
+    (λ c κs. search needs)  -- refused-requires-3
+    (λ c. rw (sym (c .before .before .before .before .judged .ensures) ∙ c .before .before .n .given .1) (c .refused .ensures))  -- returns
+    (λ c. rw (sym (c .before .before .before .before .before .before .before .before .before .judged .ensures) ∙ c .before .before .before .before .before .before .before .q .given .1) (rw (sym (c .before .before .before .before .before .ret-kind .ensures)) (rw (sym (c .before .before .before .before .same-kind .ensures) ∙ c .before .before .before .if1 .taken) (rw (sym (c .before .before .zero-offset .ensures) ∙ c .before .if2 .taken) (c .went .ensures)))))  -- returns-2
+    (λ c. rw (sym (c .before .before .before .before .before .before .before .before .before .judged .ensures) ∙ c .before .before .before .before .before .before .before .q .given .1) (rw (sym (c .before .before .before .before .before .ret-kind .ensures)) (rw (sym (c .before .before .before .before .same-kind .ensures) ∙ c .before .before .before .if1 .taken) (rw (sym (c .before .before .zero-offset .ensures) ∙ c .before .if2 .left) (c .refused2 .ensures)))))  -- returns-3
+    (λ c. rw (sym (c .before .before .before .before .before .before .before .judged .ensures) ∙ c .before .before .before .before .before .q .given .1) (rw (sym (c .before .before .before .ret-kind .ensures)) (rw (sym (c .before .before .same-kind .ensures) ∙ c .before .if1 .left) (c .refused3 .ensures)))))  -- returns-4

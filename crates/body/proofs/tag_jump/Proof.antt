@@ -1,0 +1,14 @@
+use mathlib.Core.Path.{sym}
+use borrow.Author.Needs.{needs}
+use Rattle.body.proofs.tag_jump.Statement.{statement}
+use Rattle.body.proofs.tag_jump.Tie as tie
+
+pub tag-jump-spec : {M : Type 1} → statement M
+tag-jump-spec =
+    tie.close
+    (tie.spec
+    (λ c κs. search needs)  -- with-tag-requires
+    (λ c κs. search needs)  -- with-entry-requires
+    (λ c κs. search needs)  -- went-requires
+    (λ c κs. search needs)  -- jump-to-requires
+    (λ c. rw (sym (c .before .before .before .with-tag .ensures), sym (c .before .before .with-entry .ensures), sym (c .before .went .ensures)) (c .jump-to .ensures)))  -- returns

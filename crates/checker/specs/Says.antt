@@ -1,0 +1,13 @@
+-- An answer and six tables are what the rules say of a text. Assumes nothing.
+use Rattle.rules.specs.Prelude.{ℕ, List, _≡_}
+use Rattle.rules.specs.declared.Answer.{Answer}
+use Rattle.rules.specs.Check.{Checked}
+
+pub record Says (c : Checked) (a : Answer) (Z N R D L B : List ℕ) : Type 0 where
+  pub answer : a ≡ c .verdict
+  pub size : Z ≡ c .tables .size
+  pub nodes : N ≡ c .tables .nodes
+  pub rows : R ≡ c .tables .rows
+  pub vars : D ≡ c .tables .vars
+  pub labels : L ≡ c .tables .labels
+  pub body : B ≡ c .tables .body

@@ -1,0 +1,20 @@
+use Rattle.rules.specs.Typing.{tyInt}  -- filled
+use mathlib.Core.Path.{refl, sym}  -- filled
+use borrow.Author.Needs.{needs}
+use Rattle.typing.proofs.ty_int.Statement.{statement}
+use Rattle.typing.proofs.ty_int.Tie as tie
+
+pub ty-int-spec : {M : Type 1} → statement M
+unfolding tyInt
+ty-int-spec =
+    tie.close
+    (tie.spec
+    (λ c. search needs)  -- enum-known-x
+    (λ c. search needs)  -- enum-known-x-2
+    (λ c. search needs)  -- enum-told
+    (λ c. search needs)  -- enum-known-k
+    (λ c κs. search needs)  -- prods-of-requires
+    (λ c κs. search needs)  -- int-of-requires
+    (λ c. rw (c .before .x .given .1) refl)  -- returns
+    (λ c. rw (c .before .before .before .x2 .given .1) (rw (c .enum-told .given .1) refl))  -- returns-2
+    (λ c. rw (c .before .before .before .before .before .before .x2 .given .1) (rw (c .before .before .before .k .given .1) (rw (sym (c .before .prods-of .ensures)) (c .int-of .ensures)))))  -- returns-3

@@ -1,0 +1,43 @@
+-- The judgement of the tree at a node, with the node after it; and a node's judgement from its operands'. Assumes nothing.
+use Rattle.rules.specs.Prelude.{ℕ, List}
+use Rattle.rules.specs.declared.Env.{Env}
+use Rattle.rules.specs.declared.Kind.the-variants.{Cint}
+use Rattle.rules.specs.declared.Tag.the-variants as G
+use Rattle.rules.specs.declared.Judged.{Judged}
+use Rattle.rules.specs.declared.Judged.the-variants.{No, Ok}
+use Rattle.rules.specs.Numbers.{numCode}
+use Rattle.rules.specs.Program.{Rows, Var}
+use Rattle.rules.specs.View.{Form, none, litF, varF, fetchF, intF, valF, stepF, calc, Walked, walked, treeAt}
+use Rattle.rules.specs.Typing.{intEntry, tyVar, tyArith, tyVal, tyInt, tyFetch, tyStep, type}
+use Rattle.typing.specs.declared.Found.{Found}
+
+-- how many operands a form has
+abbrev pub arity : Form → ℕ
+arity none = 0
+arity litF = 0
+arity varF = 0
+arity fetchF = 1
+arity intF = 1
+arity valF = 1
+arity stepF = 2
+arity (calc o) = 2
+
+-- a node's judgement, from its argument and the judgements of its operands
+unfoldable pub form : Rows → List Var → Env → Form → ℕ → Judged → Judged → Judged
+form ρ D Γ none a x y = No 4
+form ρ D Γ litF a x y = Ok Cint (intEntry (G.Known (numCode a)))
+form ρ D Γ varF a x y = tyVar D Γ a
+form ρ D Γ fetchF a x y = tyFetch ρ x
+form ρ D Γ intF a x y = tyInt ρ x
+form ρ D Γ valF a x y = tyVal ρ a x
+form ρ D Γ stepF a x y = tyStep ρ x y
+form ρ D Γ (calc o) a x y = tyArith o x y
+
+abbrev pub found : Judged → ℕ → Found
+found j n = record { judged = j; next = n }
+
+abbrev pub foundOf : Rows → List Var → Env → Walked → Found
+foundOf ρ D Γ (walked x n) = found (type ρ D Γ x) n
+
+unfoldable pub foundAt : Rows → List Var → Env → List ℕ → ℕ → ℕ → Found
+foundAt ρ D Γ N d k = foundOf ρ D Γ (treeAt N d k)

@@ -1,0 +1,438 @@
+// The judgement of an expression over a program's tables: nodes in preorder, the rows, the variables, and the environment by value.
+// Operands are judged left to right, each with the node after it; then the form itself.
+ghost use mathlib.Core.Path.{_≡_};
+ghost use Prim.Native.Nat.{_<_};
+ghost use lib.IntN.{pos, _+ℤ_};
+ghost use Rattle.rules.specs.Numbers.{num};
+ghost use Rattle.rules.specs.Program.{entry};
+ghost use Rattle.rules.specs.View.{rowsFrom, varsFrom, formOf};
+ghost use Rattle.rules.specs.Typing.{arithTag, arithKinds, suitsTag, valOf, immediate, intOf, lone, spot, spotOf, addrAt, addrSpot, addressOf, fetched, stepped, stepKinds, tyVar, tyArith, tyVal, tyInt, tyFetch, tyStep};
+ghost use Rattle.number.specs.Places.{indexIn};
+ghost use Rattle.typing.specs.Walk.{arity, form, found, foundAt};
+use number::Index;
+use rules::Addr;
+use rules::Boxed;
+use rules::Entry;
+use rules::Env;
+use rules::Judged;
+use rules::Kind;
+use rules::Limits;
+use rules::Num;
+use rules::Offset;
+use rules::Op;
+use rules::Psi;
+use rules::Tag;
+
+// What a node's expression is judged as, and the node after it.
+pub struct Found {
+    pub judged: Judged,
+    pub next: usize,
+}
+
+// ---- variables and arithmetic
+
+pub fn var_judged(size: &[u32; 6], vars: &[u32; 96], env: Env, v: usize) -> Judged
+    ensures { λ j. ⌜ j ≡ tyVar (varsFrom (now (size .entry)) (now (vars .entry))) env v ⌝ }
+{
+    let n = env.count;
+    if v < n {
+        Judged::Ok(program::kind_of(size, vars, v), entry::entry_at(env, v))
+    } else {
+        Judged::No(4)
+    }
+}
+
+fn arith_tag(op: Op, a: Tag, b: Tag) -> Tag
+    ensures { λ r. ⌜ r ≡ arithTag op a b ⌝ }
+{
+    match a {
+        Tag::Unknown => Tag::Unknown,
+        Tag::Known(n) => match b {
+            Tag::Unknown => Tag::Unknown,
+            Tag::Known(m) => Tag::Known(number::arith(op, n, m)),
+        },
+    }
+}
+
+fn arith_kinds(op: Op, k: Kind, e: Entry, l: Kind, d: Entry) -> Judged
+    ensures { λ j. ⌜ j ≡ arithKinds op k e l d ⌝ }
+{
+    let a = e.tag;
+    let b = d.tag;
+    match k {
+        Kind::Value(_) => Judged::No(6),
+        Kind::Cint => match l {
+            Kind::Value(_) => Judged::No(6),
+            Kind::Cint => Judged::Ok(Kind::Cint, entry::int_entry(arith_tag(op, a, b))),
+        },
+    }
+}
+
+fn ty_arith(op: Op, x: Judged, y: Judged) -> Judged
+    ensures { λ j. ⌜ j ≡ tyArith op x y ⌝ }
+{
+    match x {
+        Judged::No(n) => Judged::No(n),
+        Judged::Ok(k, e) => match y {
+            Judged::No(n) => Judged::No(n),
+            Judged::Ok(l, d) => arith_kinds(op, k, e, l, d),
+        },
+    }
+}
+
+// ---- `val` and `int`
+
+fn suits_tag(psi: Psi, t: Tag) -> bool
+    ensures { λ r. ⌜ r ≡ suitsTag psi t ⌝ }
+{
+    match t {
+        Tag::Known(n) => number::suits(psi, n),
+        Tag::Unknown => match psi {
+            Psi::Inf => true,
+            Psi::Upto(_) => false,
+        },
+    }
+}
+
+fn val_of(psi: Psi, r: usize, t: Tag) -> Judged
+    ensures { λ j. ⌜ j ≡ valOf psi r t ⌝ }
+{
+    if suits_tag(psi, t) {
+        Judged::Ok(Kind::Value(r), entry::imm_entry(t))
+    } else {
+        Judged::No(9)
+    }
+}
+
+fn ty_val(size: &[u32; 6], rows: &[u32; 17536], r: usize, x: Judged) -> Judged
+    ensures { λ j. ⌜ j ≡ tyVal (rowsFrom (now (size .entry)) (now (rows .entry))) r x ⌝ }
+{
+    match x {
+        Judged::No(n) => Judged::No(n),
+        Judged::Ok(k, e) => match k {
+            Kind::Value(_) => Judged::No(6),
+            Kind::Cint => {
+                let t = e.tag;
+                val_of(program::psi_of(size, rows, r), r, t)
+            }
+        },
+    }
+}
+
+fn is_immediate(b: Boxed, p: usize) -> bool
+    ensures { λ r. ⌜ r ≡ immediate b p ⌝ }
+{
+    match b {
+        Boxed::Either => p == 0,
+        Boxed::Block => false,
+        Boxed::Imm => true,
+    }
+}
+
+fn int_of(p: usize, e: Entry) -> Judged
+    ensures { λ j. ⌜ j ≡ intOf p e ⌝ }
+{
+    let b = e.boxed;
+    let i = e.offset;
+    let t = e.tag;
+    if is_immediate(b, p) {
+        if entry::zero_offset(i) {
+            Judged::Ok(Kind::Cint, entry::int_entry(t))
+        } else {
+            Judged::No(10)
+        }
+    } else {
+        Judged::No(7)
+    }
+}
+
+fn ty_int(size: &[u32; 6], rows: &[u32; 17536], x: Judged) -> Judged
+    ensures { λ j. ⌜ j ≡ tyInt (rowsFrom (now (size .entry)) (now (rows .entry))) x ⌝ }
+{
+    match x {
+        Judged::No(n) => Judged::No(n),
+        Judged::Ok(k, e) => match k {
+            Kind::Cint => Judged::No(6),
+            Kind::Value(r) => int_of(program::prods_of(size, rows, r), e),
+        },
+    }
+}
+
+// ---- addresses
+
+// PSI 0 and exactly one product.
+fn is_lone(psi: Psi, p: usize) -> bool
+    ensures { λ r. ⌜ r ≡ lone psi p ⌝ }
+{
+    match psi {
+        Psi::Inf => false,
+        Psi::Upto(n) => { if n == 0 { p == 1 } else { false } }
+    }
+}
+
+// Where o plus m lands among n, over whole numbers. Here alone an amount is added to an offset.
+fn moved(o: Num, m: Num, n: usize) -> Index
+    ensures { λ i. ⌜ i ≡ indexIn (o .n +ℤ m .n) n ⌝ }
+{
+    number::sum_in(o, m, n)
+}
+
+fn addr_at(size: &[u32; 6], rows: &[u32; 17536], r: usize, o: Num, t: Num, m: Num) -> Addr
+    ensures { λ a. ⌜ a ≡ addrAt (rowsFrom (now (size .entry)) (now (rows .entry))) r o t m ⌝ }
+{
+    match number::index_in(t, program::prods_of(size, rows, r)) {
+        Index::Outside => Addr::Bad(8),
+        Index::At(tag) => match moved(o, m, program::fields_of(size, rows, r, tag)) {
+            Index::Outside => Addr::Bad(8),
+            Index::At(k) => Addr::At(tag, k),
+        },
+    }
+}
+
+// The spot is found: then the amount must be known.
+fn spot_addr(size: &[u32; 6], rows: &[u32; 17536], r: usize, o: Num, t: Num, m: Tag) -> Addr
+    ensures { λ a. ⌜ a ≡ addrSpot (rowsFrom (now (size .entry)) (now (rows .entry))) r (spot o t) m ⌝ }
+{
+    match m {
+        Tag::Unknown => Addr::Bad(7),
+        Tag::Known(n) => addr_at(size, rows, r, o, t, n),
+    }
+}
+
+// B is `box`; whether the row is a lone one plays no part.
+fn block_addr(
+    size: &[u32; 6],
+    rows: &[u32; 17536],
+    r: usize,
+    only: bool,
+    o: Offset,
+    t: Tag,
+    m: Tag,
+) -> Addr
+    ensures { λ a. ⌜ a ≡ addrSpot (rowsFrom (now (size .entry)) (now (rows .entry))) r (spotOf (Boxed.Block) o t only) m ⌝ }
+{
+    match o {
+        Offset::Unknown => Addr::Bad(7),
+        Offset::Known(n) => match t {
+            Tag::Unknown => Addr::Bad(7),
+            Tag::Known(k) => spot_addr(size, rows, r, n, k, m),
+        },
+    }
+}
+
+// B is `any`.
+fn either_addr(
+    size: &[u32; 6],
+    rows: &[u32; 17536],
+    r: usize,
+    only: bool,
+    o: Offset,
+    t: Tag,
+    m: Tag,
+) -> Addr
+    ensures { λ a. ⌜ a ≡ addrSpot (rowsFrom (now (size .entry)) (now (rows .entry))) r (spotOf (Boxed.Either) o t only) m ⌝ }
+{
+    match t {
+        Tag::Known(_) => Addr::Bad(7),
+        Tag::Unknown => {
+            if entry::zero_offset(o) {
+                if only {
+                    spot_addr(size, rows, r, Num { n: 0 }, Num { n: 0 }, m)
+                } else {
+                    Addr::Bad(7)
+                }
+            } else {
+                Addr::Bad(7)
+            }
+        }
+    }
+}
+
+// The tag and the offset that the entry e of row r addresses, m added to the offset.
+pub fn address_of(size: &[u32; 6], rows: &[u32; 17536], r: usize, e: Entry, m: Tag) -> Addr
+    ensures { λ a. ⌜ a ≡ addressOf (rowsFrom (now (size .entry)) (now (rows .entry))) r e m ⌝ }
+{
+    let b = e.boxed;
+    let o = e.offset;
+    let t = e.tag;
+    let only = is_lone(
+        program::psi_of(size, rows, r),
+        program::prods_of(size, rows, r),
+    );
+    match b {
+        Boxed::Either => either_addr(size, rows, r, only, o, t, m),
+        Boxed::Block => block_addr(size, rows, r, only, o, t, m),
+        Boxed::Imm => Addr::Bad(7),
+    }
+}
+
+// ---- `fetch` and `step`
+
+fn fetch_to(size: &[u32; 6], rows: &[u32; 17536], r: usize, a: Addr) -> Judged
+    ensures { λ j. ⌜ j ≡ fetched (rowsFrom (now (size .entry)) (now (rows .entry))) r a ⌝ }
+{
+    match a {
+        Addr::Bad(n) => Judged::No(n),
+        Addr::At(t, o) => Judged::Ok(
+            Kind::Value(program::field_of(size, rows, r, t, o)),
+            Entry::LOOSEST,
+        ),
+    }
+}
+
+fn ty_fetch(size: &[u32; 6], rows: &[u32; 17536], x: Judged) -> Judged
+    ensures { λ j. ⌜ j ≡ tyFetch (rowsFrom (now (size .entry)) (now (rows .entry))) x ⌝ }
+{
+    match x {
+        Judged::No(n) => Judged::No(n),
+        Judged::Ok(k, e) => match k {
+            Kind::Cint => Judged::No(6),
+            Kind::Value(r) => fetch_to(
+                size,
+                rows,
+                r,
+                address_of(size, rows, r, e, Tag::Known(Num { n: 0 })),
+            ),
+        },
+    }
+}
+
+// `box` at offset o of a block with tag t.
+fn block_entry(t: usize, o: usize) -> Entry
+    requires { ⌜ (t < 16) × (o < 16) ⌝ }
+    ensures { λ e. ⌜ e ≡ entry (Boxed.Block) (Offset.Known (num (pos o))) (Tag.Known (num (pos t))) ⌝ }
+{
+    Entry {
+        boxed: Boxed::Block,
+        offset: Offset::Known(Num { n: o as i32 }),
+        tag: Tag::Known(Num { n: t as i32 }),
+    }
+}
+
+fn step_to(size: &[u32; 6], rows: &[u32; 17536], r: usize, e: Entry, m: Tag) -> Judged
+    ensures { λ j. ⌜ j ≡ stepped r (addressOf (rowsFrom (now (size .entry)) (now (rows .entry))) r e m) ⌝ }
+{
+    match address_of(size, rows, r, e, m) {
+        Addr::Bad(n) => Judged::No(n),
+        Addr::At(t, o) => Judged::Ok(Kind::Value(r), block_entry(t, o)),
+    }
+}
+
+fn step_kinds(size: &[u32; 6], rows: &[u32; 17536], k: Kind, e: Entry, l: Kind, d: Entry) -> Judged
+    ensures { λ j. ⌜ j ≡ stepKinds (rowsFrom (now (size .entry)) (now (rows .entry))) k e l d ⌝ }
+{
+    let m = d.tag;
+    match k {
+        Kind::Cint => Judged::No(6),
+        Kind::Value(r) => match l {
+            Kind::Value(_) => Judged::No(6),
+            Kind::Cint => step_to(size, rows, r, e, m),
+        },
+    }
+}
+
+fn ty_step(size: &[u32; 6], rows: &[u32; 17536], x: Judged, y: Judged) -> Judged
+    ensures { λ j. ⌜ j ≡ tyStep (rowsFrom (now (size .entry)) (now (rows .entry))) x y ⌝ }
+{
+    match x {
+        Judged::No(n) => Judged::No(n),
+        Judged::Ok(k, e) => match y {
+            Judged::No(n) => Judged::No(n),
+            Judged::Ok(l, d) => step_kinds(size, rows, k, e, l, d),
+        },
+    }
+}
+
+// ---- the walk
+
+fn operands(op: u32) -> usize
+    ensures { λ n. ⌜ n ≡ arity (formOf op) ⌝ }
+{
+    match op {
+        1 => 0,
+        2 => 0,
+        3 => 1,
+        4 => 1,
+        5 => 1,
+        6 => 2,
+        7 => 2,
+        8 => 2,
+        9 => 2,
+        10 => 2,
+        11 => 2,
+        _ => 0,
+    }
+}
+
+// What a node of operation op with argument a is judged as, from what its operands are.
+fn apply(
+    size: &[u32; 6],
+    rows: &[u32; 17536],
+    vars: &[u32; 96],
+    env: Env,
+    op: u32,
+    a: u32,
+    x: Judged,
+    y: Judged,
+) -> Judged
+    ensures { λ j. ⌜ j ≡ form (rowsFrom (now (size .entry)) (now (rows .entry))) (varsFrom (now (size .entry)) (now (vars .entry))) env (formOf op) a x y ⌝ }
+{
+    match op {
+        1 => Judged::Ok(Kind::Cint, entry::int_entry(Tag::Known(number::number(a)))),
+        2 => var_judged(size, vars, env, a as usize),
+        3 => ty_fetch(size, rows, x),
+        4 => ty_int(size, rows, x),
+        5 => ty_val(size, rows, a as usize, x),
+        6 => ty_step(size, rows, x, y),
+        7 => ty_arith(Op::Add, x, y),
+        8 => ty_arith(Op::Sub, x, y),
+        9 => ty_arith(Op::Mul, x, y),
+        10 => ty_arith(Op::Eq, x, y),
+        11 => ty_arith(Op::Lt, x, y),
+        _ => Judged::No(4),
+    }
+}
+
+fn gives(j: Judged, n: usize) -> Found
+    ensures { λ f. ⌜ f ≡ found j n ⌝ }
+{
+    Found { judged: j, next: n }
+}
+
+// What the expression at a node is judged as. Past the depth and past the last node nothing is there (4).
+pub fn judge_at(
+    size: &[u32; 6],
+    rows: &[u32; 17536],
+    vars: &[u32; 96],
+    nodes: &[u64; 4096],
+    env: Env,
+    depth: usize,
+    at: usize,
+) -> Found
+    ensures { λ f. ⌜ f ≡ foundAt (rowsFrom (now (size .entry)) (now (rows .entry))) (varsFrom (now (size .entry)) (now (vars .entry))) env (now (nodes .entry)) depth at ⌝ }
+{
+    let no = Judged::No(4);
+    if depth == 0 {
+        return gives(no, at);
+    }
+    if Limits::NODES <= at {
+        return gives(no, at);
+    }
+    let op = program::operation(nodes, at);
+    let a = program::argument(nodes, at);
+    let n = operands(op);
+    let first = at + 1;
+    if n == 0 {
+        return gives(apply(size, rows, vars, env, op, a, no, no), first);
+    }
+    let x = judge_at(size, rows, vars, nodes, env, depth - 1, first);
+    let v = x.judged;
+    let second = x.next;
+    if n == 1 {
+        return gives(apply(size, rows, vars, env, op, a, v, no), second);
+    }
+    let y = judge_at(size, rows, vars, nodes, env, depth - 1, second);
+    let u = y.judged;
+    let after = y.next;
+    gives(apply(size, rows, vars, env, op, a, v, u), after)
+}
