@@ -11,12 +11,12 @@ use rules::Psi;
 // ---- bits
 
 // k, or -1 - k: what a number is without its bits.
-enum Sign {
+pub enum Sign {
     Plus(u32),
     Minus(u32),
 }
 
-fn sign_of(a: Num) -> Sign
+pub fn sign_of(a: Num) -> Sign
     ensures { λ r. ⌜ r ≡ signOf (a .n) ⌝ }
 {
     let z = a.n;

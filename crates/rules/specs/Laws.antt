@@ -7,3 +7,4 @@ pub mod Covering
 pub mod Small
 pub mod Steps
 pub mod Absent
+pub mod Told

@@ -26,6 +26,8 @@ pub use Rattle.rules.specs.declared.Op.{Op}
 pub use Rattle.rules.specs.declared.Op.the-variants as O
 -- answers
 pub use Rattle.rules.specs.declared.Answer.{Answer}
+pub use Rattle.rules.specs.declared.Verdict.{Verdict}
+pub use Rattle.rules.specs.declared.Verdict.the-variants as C
 pub use Rattle.rules.specs.declared.Judged.{Judged}
 pub use Rattle.rules.specs.declared.Judged.the-variants.{No, Ok}
 pub use Rattle.rules.specs.declared.Addr.{Addr}

@@ -161,6 +161,31 @@ pub struct Answer {
     pub line: usize,
 }
 
+// The answer to a text, case by case, with the line that it names. specs/Answers gives the number of each.
+pub enum Verdict {
+    Accepted,
+    TooLong,
+    Shape(usize),
+    Limit(usize),
+    Absent(usize),
+    IntEntry(usize),
+    WrongKind(usize),
+    NotKnown(usize),
+    Outside(usize),
+    NotAllowed(usize),
+    NotZero(usize),
+    NotCovered(usize),
+    NotReached(usize),
+    NoEnd(usize),
+    StoreTooLong,
+    StoreShape(usize),
+    StoreLimit(usize),
+    StoreAbsent(usize),
+    StoreBlock(usize),
+    StoreCell(usize),
+    StoreArgument(usize),
+}
+
 // What an expression is judged as: an answer's number, or a kind with an entry.
 pub enum Judged {
     No(u32),
@@ -236,11 +261,12 @@ pub enum Act {
     Give(Datum),
 }
 
-// What a step says of itself.
+// What a step says of itself; `Spent` where the budget is used up.
 pub enum Stepped {
     Stuck,
     Moved,
     Returned,
+    Spent,
 }
 
 // `none`, `running`, `done`

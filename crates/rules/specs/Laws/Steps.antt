@@ -14,16 +14,19 @@ abbrev IsStuck : Stepped → Type 0
 IsStuck S.Stuck = Unit
 IsStuck S.Moved = ⊥
 IsStuck S.Returned = ⊥
+IsStuck S.Spent = ⊥
 
 abbrev IsMoved : Stepped → Type 0
 IsMoved S.Stuck = ⊥
 IsMoved S.Moved = Unit
 IsMoved S.Returned = ⊥
+IsMoved S.Spent = ⊥
 
 abbrev IsReturned : Stepped → Type 0
 IsReturned S.Stuck = ⊥
 IsReturned S.Moved = ⊥
 IsReturned S.Returned = Unit
+IsReturned S.Spent = ⊥
 
 nothing-done : (a : Act) (m : Machine) → IsStuck (saysAct a) → apply a m ≡ m
 unfolding apply

@@ -1,14 +1,15 @@
 -- The machine's tables: what they mean, and a step that alters them where they stand. Assumes nothing.
 -- A datum is one number: its high half 0 nothing, 1 C int, 2 immediate, k + 3 a place in block k; its low half the number's word, or the offset.
-use Rattle.rules.specs.Prelude.{ℕ, zero, suc, _+_, _-_, _*_, _/_, _%_, List, eqb, length, getD, set, Datum, Int, Imm, Place, Given, Stuck, Has, Act}
+use Rattle.rules.specs.Prelude.{ℕ, zero, suc, _+_, _-_, _*_, _/_, _%_, Bool, List, leb, eqb, length, getD, set, Datum, Int, Imm, Place, Given, Stuck, Has, Act, Stepped}
 use Rattle.rules.specs.Prelude.D
+use Rattle.rules.specs.Prelude.S
 use Rattle.rules.specs.When.{One, when}
 use Rattle.rules.specs.Numbers.{numCode, wordOf}
 use Rattle.rules.specs.Limits.{limits}
 use Rattle.rules.specs.Text.Layout.{cell}
 use Rattle.rules.specs.Program.{Prog}
 use Rattle.rules.specs.View.{views, tab, upTo}
-use Rattle.rules.specs.Machine.{machines, decide, Block, Store, Machine}
+use Rattle.rules.specs.Machine.{machines, decide, Block, Store, Machine, says}
 
 unfoldable pub datumCode : ℕ → Given
 datumCode c =
@@ -80,7 +81,21 @@ unfoldable pub runT : Prog → ℕ → MTables → MTables
 runT P zero t = t
 runT P (suc n) t = runT P n (stepT P t)
 
+-- a machine has a budget; one whose count has reached it stays as it is
+abbrev pub spent : MTables → Bool
+spent t = leb (getD (t .size) 0 0) (t .steps)
+
+unfoldable pub stepWithin : Prog → MTables → MTables
+stepWithin P t = when (spent t) (λ _. t) (λ _. stepT P t)
+
+unfoldable pub saysWithin : Prog → MTables → Stepped
+saysWithin P t = when (spent t) (λ _. S.Spent) (λ _. says P (machine P t))
+
+-- all the steps that its budget leaves
+unfoldable pub runWithin : Prog → MTables → MTables
+runWithin P t = runT P (getD (t .size) 0 0 - t .steps) t
+
 -- to compute with what stands here
 unfoldable pub machineTables : One
-unfolding views machines datumCode codeOf blockFrom storeOf valsOf machine applyT stepT runT
+unfolding views machines datumCode codeOf blockFrom storeOf valsOf machine applyT stepT runT stepWithin saysWithin runWithin
 machineTables = tt
