@@ -17,19 +17,18 @@ use Rattle.rules.specs.When.{when}
 use Rattle.rules.specs.Answers.{answer, accepted, passes, first}
 use Rattle.rules.specs.Numbers.{numCode}
 use Rattle.rules.specs.Text.Layout.{Tables}
-use Rattle.rules.specs.Program.{Rows, Var, Expr, Stmt, badS}
-use Rattle.rules.specs.View.{Walked, walked, treeOf, treeAt, withOne, withTwo, Way, noW, setW, putW, gotoW, ifW, ifimmW, iftagW, ifintW, returnW, labelW, wayOf, stmtOf, stmtFrom, kindCode, rowsFrom, varsFrom, labelsFrom, bodyFrom, program}
+use Rattle.rules.specs.Program.{Stmt, badS}
+use Rattle.rules.specs.View.{treeOf, treeAt, Way, noW, setW, putW, gotoW, ifW, ifimmW, iftagW, ifintW, returnW, labelW, wayOf, stmtOf, stmtFrom, kindCode, rowsFrom, varsFrom, labelsFrom, bodyFrom, program}
 use Rattle.rules.specs.Typing.{tyVar, type}
 use Rattle.rules.specs.Environments.{coversEnv, covers, startEnv}
 use Rattle.rules.specs.Body.{refuse, ruleSet, rulePut, ruleGoto, ruleIf, ruleIfimm, ruleIftag, ruleIfint, ruleReturn, reached, lineOf, localLine, lastOf, isEnd}
 use Rattle.program.specs.declared.Stored.{Stored}
 use Rattle.program.specs.Lines.{storedAt}
 use Rattle.program.specs.Labels.{envFrom}
+use Rattle.program.specs.Nodes.{afterOf}
 use Rattle.program.proofs.Laws.{env-in, line-view, line-in, line-drop}
-use Rattle.typing.specs.declared.Found.{Found}
-use Rattle.typing.specs.Walk.{foundOf, foundAt}
-use Rattle.typing.proofs.Laws.{NoneTo, unnamed}
-use Rattle.body.specs.Lines.{lent, afterOf, labelLine, lineIn, lineAt, numbersIn, localsIn, linesIn, typesIn}
+use Rattle.program.proofs.Walk.{NoneTo, way-rest, with-one, with-two}
+use Rattle.body.specs.Lines.{lent, labelLine, lineIn, lineAt, numbersIn, localsIn, linesIn, typesIn}
 
 -- ---- labels
 
@@ -38,31 +37,7 @@ pub env-covers : (Z L : List ℕ) (l n : ℕ) (Γ : Env) → l < length (labelsF
 unfolding covers coversEnv
 env-covers Z L l n Γ h = ap (λ (Δ : Env). coversEnv Δ Γ) (env-in Z L l n h)
 
--- ---- expressions
-
-module _ (ρ : Rows) (D : List Var) (Γ : Env) where
-  found-tree : (w : Walked) → foundOf ρ D Γ w ≡ record { judged = type ρ D Γ (treeOf w); next = afterOf w }
-  found-tree (walked x n) = refl
-
-  pub tree-of : (N : List ℕ) (d k : ℕ) (f : Found) → f ≡ foundAt ρ D Γ N d k → f .judged ≡ type ρ D Γ (treeOf (treeAt N d k))
-  unfolding foundAt
-  tree-of N d k f e = ap (λ (x : Found). x .judged) (e ∙ found-tree (treeAt N d k))
-
-  pub after-of : (N : List ℕ) (d k : ℕ) (f : Found) → f ≡ foundAt ρ D Γ N d k → f .next ≡ afterOf (treeAt N d k)
-  unfolding foundAt
-  after-of N d k f e = ap (λ (x : Found). x .next) (e ∙ found-tree (treeAt N d k))
-
-with-one : (f : Expr → Stmt) (w : Walked) → withOne f w ≡ f (treeOf w)
-with-one f (walked x n) = refl
-
-with-two : (N : List ℕ) (f : Expr → Expr → Stmt) (w : Walked) → withTwo N f w ≡ f (treeOf w) (treeOf (treeAt N 16 (afterOf w)))
-with-two N f (walked x n) = refl
-
 -- ---- the line by its kind
-
-way-rest : (kind : ℕ) → NoneTo 9 kind → wayOf kind ≡ noW
-unfolding wayOf
-way-rest kind h = unnamed (noW ∷ setW ∷ putW ∷ gotoW ∷ ifW ∷ ifimmW ∷ iftagW ∷ ifintW ∷ returnW ∷ labelW ∷ []) noW 9 kind (omega lin) refl h
 
 module _ (Z R D L N B : List ℕ) (b : Bool) (Γ : Env) (i : ℕ) (s : Stored) (e : s ≡ storedAt B i) where
   abbrev line : Line

@@ -9,17 +9,13 @@ use Rattle.rules.specs.When.{need}
 use Rattle.rules.specs.Answers.{first}
 use Rattle.rules.specs.Text.Layout.{Tables}
 use Rattle.rules.specs.Program.{Stmt, badS, setS, putS, gotoS, ifS, ifimmS, iftagS, ifintS, returnS, labelS}
-use Rattle.rules.specs.View.{Walked, walked, rowsFrom, varsFrom, bodyFrom, stmtFrom, program}
+use Rattle.rules.specs.View.{rowsFrom, varsFrom, bodyFrom, stmtFrom, program}
 use Rattle.rules.specs.Environments.{coversEnv, startEnv}
 use Rattle.rules.specs.Body.{goes, refuse, lineOf, localLine, onward}
 use Rattle.program.specs.Labels.{envFrom}
 
 abbrev pub lent : List ℕ → List ℕ → List ℕ → List ℕ → List ℕ → List ℕ → Tables
 lent Z R D L N B = record { size = Z; nodes = N; rows = R; vars = D; labels = L; body = B }
-
--- the node after a tree
-abbrev pub afterOf : Walked → ℕ
-afterOf (walked x n) = n
 
 -- what falls into a label with the environment Δ is covered (11); after it Δ holds
 unfoldable pub labelLine : Env → Bool → Env → Line

@@ -1,21 +1,21 @@
--- Laws of the loops over lists, of the tree walk, and of a body line by its kind's number. Assumes nothing.
+-- Laws of the tests of all, of the stage's parts, of the tree walk, and of a body line by its kind's number. Assumes nothing.
 use native.Mathlib.Omega.{arith as lin}
 use native.Mathlib.Decide.{decLt}
-use native.Mathlib.Numerals.{add-one, sub-one}
-use lib.ListN.{drop-of-length-le, List·getD-eq-default, List·getD-map, length-map}
-use lib.Seq.{drop-cons}
+use native.Mathlib.Numerals.{sub-one}
+use lib.ListN.{List·getD-eq-default, List·getD-map, length-map}
 use borrow.Author.Tests.{lt-ltb, le-ltb, ne-eqb}
 use Rattle.rules.specs.Prelude.{ℕ, zero, suc, _+_, _-_, _/_, _%_, _<_, _≤_, Bool, true, false, _&&_, List, [], _∷_, _++_, map, _≡_, refl, sym, ap, _∙_, eqb, length, getD, drop}
 use Rattle.rules.specs.declared.Answer.{Answer}
 use Rattle.rules.specs.declared.Num.{Num}
 use Rattle.rules.specs.Numbers.{numCode}
-use Rattle.rules.specs.When.{One, when}
-use Rattle.rules.specs.Answers.{answer, accepted, andThen, first}
+use Rattle.rules.specs.When.{when}
+use Rattle.rules.specs.Answers.{answer, andThen, first}
 use Rattle.rules.specs.Environments.{noVar}
 use Rattle.rules.specs.Program.{Prog, Var, Expr, Stmt, badS, setS, putS, gotoS, ifS, ifimmS, iftagS, ifintS, returnS, rowThere, varThere, labelThere, kindAt, labelAt, noEntry}
 use Rattle.rules.specs.View.{tab, varsFrom, labelsFrom, labelFrom, entryFrom, Walked, walked, one, two, Form, none, litF, varF, fetchF, intF, valF, stepF, calc, formOf, treeNode, treeAt, Way, noW, setW, putW, gotoW, ifW, ifimmW, iftagW, ifintW, returnW, labelW, wayOf, treeOf, withOne, withTwo, stmtOf, stmtFrom, bodyFrom}
 use Rattle.rules.specs.Names.{exprThere, stmtThere, fieldsThere, productsThere, entrySuits, entriesSuit, nameKind, nameRow, nameVar, nameStmt, names}
 use Rattle.rules.specs.Laws.Lists.{tab-length, tab-in}
+use Rattle.table.proofs.Passes.{left-more, left-none, then-on, then-no, first-append}
 use Rattle.program.specs.declared.Stored.{Stored}
 use Rattle.program.specs.Lines.{storedAt}
 use Rattle.program.proofs.Laws.{vars-small, label-in, label-out, line-in, line-view}
@@ -23,22 +23,7 @@ use Rattle.names.specs.declared.There.{There}
 use Rattle.names.specs.declared.Own.{Own}
 use Rattle.names.specs.Walk.{thereUpTo, walkThere, ownOf}
 
--- ---- what a loop over n things has left of their list: one more, or nothing
-
-module _ {A : Type 0} (l : List A) (i n : ℕ) (e : n ≡ length l) where
-  left-more : (d : A) → i < n → drop i l ≡ getD l i d ∷ drop (i + 1) l
-  left-more d h = rw (add-one i) (drop-cons l i d (omega (lin, e)))
-
-  left-none : n ≤ i → drop i l ≡ []
-  left-none h = drop-of-length-le l {i = i} (omega (lin, e))
-
--- ---- a test of all: of one and of what is left after it
-
-pub all-on : {l q m : Bool} → l ≡ (q && m) → q ≡ true → m ≡ l
-all-on e h = sym (rw h at e)
-
-pub all-no : {l q : Bool} (m : Bool) → l ≡ (q && m) → q ≡ false → l ≡ false
-all-no m e h = rw h at e
+-- ---- a test of all
 
 module _ (P : Prog) (l : List ℕ) (i n : ℕ) (e : n ≡ length l) where
   pub fields-left : i < n → fieldsThere P (drop i l) ≡ (rowThere (P .rows) (getD l i 0) && fieldsThere P (drop (i + 1) l))
@@ -82,38 +67,7 @@ module _ (Z D L : List ℕ) (l v n m : ℕ) (en : n ≡ length (varsFrom Z D)) (
   unfolding entriesSuit
   suits-done h = rw (left-none (varsFrom Z D) v n en h)
 
--- ---- line by line
-
--- one part of the file, then the next
-pub first-append : (line : ℕ) (a b : List ℕ) → first line (a ++ b) ≡ andThen (first line a) (λ _. first (line + length a) b)
-unfolding first
-first-append line [] b = ap (λ (n : ℕ). first n b) (omega lin)
-first-append line (x ∷ a) b = go (first-append (line + 1) a b) (eqb x 0) refl
-  where
-    go : first (line + 1) (a ++ b) ≡ andThen (first (line + 1) a) (λ _. first (line + 1 + length a) b) → (t : Bool) → eqb x 0 ≡ t →
-        first line (x ∷ (a ++ b)) ≡ andThen (first line (x ∷ a)) (λ _. first (line + length (x ∷ a)) b)
-    go r true q = rw q (r ∙ ap (λ (n : ℕ). andThen (first (line + 1) a) (λ _. first n b)) (omega lin))
-    go r false q = rw (q, q)
-
-module _ {A : Type 0} (f : A → ℕ) (l : List A) (line i n : ℕ) (en : n ≡ length l) where
-  pub lines-done : n ≤ i → accepted ≡ first (line + i) (map f (drop i l))
-  unfolding first
-  lines-done h = rw (left-none l i n en h)
-
-  module _ (d : A) (a : ℕ) (h : i < n) (e : a ≡ f (getD l i d)) where
-    pub lines-on : a ≡ 0 → first (line + (i + 1)) (map f (drop (i + 1) l)) ≡ first (line + i) (map f (drop i l))
-    unfolding first
-    lines-on z = rw (left-more l i n en d h, sym e, z) (ap (λ (k : ℕ). first k (map f (drop (i + 1) l))) (omega lin))
-
-    pub lines-no : (a ≡ 0 → ⊥) → answer a (line + i) ≡ first (line + i) (map f (drop i l))
-    unfolding first
-    lines-no z = rw (left-more l i n en d h, sym e, ne-eqb a 0 z)
-
-then-on : (a : Answer) (later : One → Answer) → a .number ≡ 0 → andThen a later ≡ later tt
-then-on a later z = rw z
-
-then-no : (a : Answer) (later : One → Answer) → (a .number ≡ 0 → ⊥) → a ≡ andThen a later
-then-no a later z = rw (ne-eqb (a .number) 0 z)
+-- ---- part by part
 
 -- the answers of the parts, one after the other: `ret`, the rows, the variables, the body
 module _ (P : Prog) (top : ℕ) (et : top ≡ nameKind P (P .ret)) where

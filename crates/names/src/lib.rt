@@ -201,7 +201,7 @@ fn there_at(size: &[u32; 6], nodes: &[u64; 4096], depth: usize, at: usize) -> Th
 
 // ---- lines
 
-// Each part is read whether the line's kind has a use for it or not: it is something in every table.
+// The label and the variable are read whether the line's kind has a use for them or not: they are something in every table. A tree is walked only where the line has one.
 fn stmt_there(
     size: &[u32; 6],
     nodes: &[u64; 4096],
@@ -218,19 +218,20 @@ fn stmt_there(
     let label = program::label_there(size, labels, body, l);
     let n = program::var_count(size);
     let var = v < n;
-    let x = there_at(size, nodes, Limits::DEPTH, k);
-    let tree = x.there;
-    let after = x.next;
-    let y = there_at(size, nodes, Limits::DEPTH, after);
     match kind {
-        1 => both(var, tree),
-        2 => both(tree, y.there),
+        1 => both(var, there_at(size, nodes, Limits::DEPTH, k).there),
+        2 => {
+            let x = there_at(size, nodes, Limits::DEPTH, k);
+            let after = x.next;
+            let y = there_at(size, nodes, Limits::DEPTH, after);
+            both(x.there, y.there)
+        }
         3 => label,
-        4 => both(label, tree),
+        4 => both(label, there_at(size, nodes, Limits::DEPTH, k).there),
         5 => both(label, var),
         6 => both(label, var),
         7 => both(label, var),
-        8 => tree,
+        8 => there_at(size, nodes, Limits::DEPTH, k).there,
         9 => label,
         _ => false,
     }

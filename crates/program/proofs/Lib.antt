@@ -1,3 +1,4 @@
 pub mod LabelLines
 pub mod Laws
 pub mod Places
+pub mod Walk

@@ -7,9 +7,10 @@ ghost use Rattle.rules.specs.Program.{psiOf, prodsOf, fieldsOf, fieldOf, kindAt
 ghost use Rattle.rules.specs.Environments.{noVar};
 ghost use Rattle.rules.specs.Text.Layout.{cell, rowWidth, varWidth, labelWidth, zeros};
 ghost use Rattle.rules.specs.Text.Fill.{putVar, putField, putLine, putEntry};
-ghost use Rattle.rules.specs.View.{psiCode, kindCode, entryFrom, rowsFrom, varsFrom, labelsFrom, bodyFrom, program};
+ghost use Rattle.rules.specs.View.{psiCode, kindCode, entryFrom, formOf, rowsFrom, varsFrom, labelsFrom, bodyFrom, program};
 ghost use Rattle.program.specs.Lines.{storedAt, isLabelLine, tablesOf};
 ghost use Rattle.program.specs.Labels.{envFrom};
+ghost use Rattle.program.specs.Nodes.{arity};
 use rules::Boxed;
 use rules::Entry;
 use rules::Env;
@@ -299,6 +300,26 @@ pub fn argument(nodes: &[u64; 4096], k: usize) -> u32
     ensures { λ r. ⌜ r ≡ getD (now (nodes .entry)) k 0 % 4294967296 ⌝ }
 {
     (table::at64(nodes, k) % 4294967296) as u32
+}
+
+// How many operands a node of operation op has: as many expressions come after it.
+pub fn operands(op: u32) -> usize
+    ensures { λ n. ⌜ n ≡ arity (formOf op) ⌝ }
+{
+    match op {
+        1 => 0,
+        2 => 0,
+        3 => 1,
+        4 => 1,
+        5 => 1,
+        6 => 2,
+        7 => 2,
+        8 => 2,
+        9 => 2,
+        10 => 2,
+        11 => 2,
+        _ => 0,
+    }
 }
 
 pub fn line_at(body: &[u32; 2560], i: usize) -> Stored

@@ -210,7 +210,7 @@ fn kind_code(s: &[u8], at: usize) -> Word
     }
 }
 
-// ---- expressions: each node before its operands
+// ---- expressions: each node before its operands. A node without operands, and the last operand, end without a further call
 
 fn expression(s: &[u8], depth: usize, at: usize, free: usize, nodes: &mut [u64; 4096]) -> Filling
     requires { ⌜ length (now s) ≤ 32768 ⌝ }
@@ -227,7 +227,12 @@ fn expression(s: &[u8], depth: usize, at: usize, free: usize, nodes: &mut [u64; 
                 return Filling::Limit;
             }
             put_node(nodes, free, op, a);
-            operands(s, depth - 1, arity(op), n, free + 1, nodes)
+            let f = free + 1;
+            let m = arity(op);
+            if m == 0 {
+                return Filling::Got(n, f);
+            }
+            operands(s, depth - 1, m, n, f, nodes)
         }
     }
 }
@@ -249,7 +254,12 @@ fn operands(
     }
     let r = expression(s, depth, at + 1, free, nodes);
     match r {
-        Filling::Got(next, f) => operands(s, depth, n - 1, next, f, nodes),
+        Filling::Got(next, f) => {
+            if n == 1 {
+                return Filling::Got(next, f);
+            }
+            operands(s, depth, n - 1, next, f, nodes)
+        }
         Filling::Limit => Filling::Limit,
     }
 }

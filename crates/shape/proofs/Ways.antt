@@ -5,7 +5,7 @@ use native.Mathlib.Numerals.{sub-one}
 use native.Mathlib.Omega.{arith}
 use lib.ListN.{List·getD-eq-default}
 use borrow.Author.Tests.{eq-eqb, ne-eqb, eqb-true}
-use Rattle.rules.specs.Prelude.{ℕ, zero, suc, _+_, _-_, _<_, _≤_, Bool, true, false, _||_, List, _≡_, refl, sym, _∙_, ltb, eqb}
+use Rattle.rules.specs.Prelude.{ℕ, zero, suc, _+_, _-_, _<_, _≤_, Bool, true, false, _||_, List, [], _∷_, _≡_, refl, sym, _∙_, ltb, eqb}
 use Rattle.rules.specs.declared.Reading.{Reading}
 use Rattle.rules.specs.declared.Reading.the-variants.{Got, Bad}
 use Rattle.rules.specs.declared.Next.{Next}
@@ -16,6 +16,7 @@ use Rattle.rules.specs.Bytes.{bytes}
 use Rattle.rules.specs.Laws.Tests.{by-when}
 use Rattle.rules.specs.Text.Words.{byteAt, plainAt, orWord, byteIs, arity, headAt}
 use Rattle.rules.specs.Text.Shape.{after, over, end, space, needed, exprOn, exprsShape, psiOr, fieldsOn, fieldsShape, anyOr, entryShape, moreEntries, labelShape, noKey, keyAt, keyOf}
+use Rattle.text.proofs.Chain.{only, chain, chain-by}
 use Rattle.shape.specs.Raised.{raised}
 
 -- ---- one after the other: the code goes on from what came out, the definitions go into it
@@ -175,24 +176,18 @@ module _ (s : List ℕ) (at more : ℕ) (p : 0 < more) {x : Next} (e : x ≡ ent
 
 -- ---- keys
 
--- a variable for each word that was tried, since the terms that code gives for them are too long to rewrite in
-pub key-words : (s : List ℕ) (at : ℕ) {a b c d e f g h i j k l m : Reading}
-    → a ≡ orWord s at (bytes "ret=") 1 (Bad at)
-    → b ≡ orWord s at (bytes "type=") 2 a
-    → c ≡ orWord s at (bytes "param=") 3 b
-    → d ≡ orWord s at (bytes "local=") 4 c
-    → e ≡ orWord s at (bytes "set=") 5 d
-    → f ≡ orWord s at (bytes "put=") 6 e
-    → g ≡ orWord s at (bytes "goto=") 7 f
-    → h ≡ orWord s at (bytes "if=") 8 g
-    → i ≡ orWord s at (bytes "ifimm=") 9 h
-    → j ≡ orWord s at (bytes "iftag=") 10 i
-    → k ≡ orWord s at (bytes "ifint=") 11 j
-    → l ≡ orWord s at (bytes "return=") 12 k
-    → m ≡ orWord s at (bytes "label=") 13 l
-    → m ≡ keyAt s at
-unfolding keyAt
-key-words s at p₁ p₂ p₃ p₄ p₅ p₆ p₇ p₈ p₉ p₁₀ p₁₁ p₁₂ p₁₃ = rw (p₁₃, p₁₂, p₁₁, p₁₀, p₉, p₈, p₇, p₆, p₅, p₄, p₃, p₂, p₁)
+abbrev keys : List (List ℕ × ℕ)
+keys = (bytes "ret=", 1) ∷ (bytes "type=", 2) ∷ (bytes "param=", 3) ∷ (bytes "local=", 4) ∷ (bytes "set=", 5) ∷ (bytes "put=", 6) ∷ (bytes "goto=", 7) ∷ (bytes "if=", 8) ∷ (bytes "ifimm=", 9) ∷ (bytes "iftag=", 10) ∷ (bytes "ifint=", 11) ∷ (bytes "return=", 12) ∷ (bytes "label=", 13) ∷ []
+
+-- only the keys that begin with the byte that stands there
+module _ (s : List ℕ) (at b : ℕ) (e : b ≡ byteAt s at) where
+  pub key-by : keyAt s at ≡ chain s at (only b keys) (Bad at)
+  unfolding keyAt
+  key-by = chain-by s at keys e
+
+  pub key-none : (b ≡ 103 → ⊥) → (b ≡ 105 → ⊥) → (b ≡ 108 → ⊥) → (b ≡ 112 → ⊥) → (b ≡ 114 → ⊥) → (b ≡ 115 → ⊥) → (b ≡ 116 → ⊥) → keyAt s at ≡ Bad at
+  key-none ng ni nl np nr ns nt =
+      key-by ∙ simp (ne-eqb b 103 ng, ne-eqb b 105 ni, ne-eqb b 108 nl, ne-eqb b 112 np, ne-eqb b 114 nr, ne-eqb b 115 ns, ne-eqb b 116 nt)
 
 -- no one of the numbers from 1 to j: what is known in the last arm of a match on k
 abbrev pub Others : ℕ → ℕ → Type 0

@@ -328,23 +328,35 @@ fn iftag_shape(s: &[u8], at: usize) -> Next
 
 // ---- a line by its key
 
-// The key's number, from 1 to 13.
+// The key's number, from 1 to 13. Only the keys that begin with the byte at `at` are tried.
 pub fn key_at(s: &[u8], at: usize) -> Reading
     ensures { λ r. ⌜ r ≡ shapes.keyAt (now (s .entry)) at ⌝ }
 {
-    let r = or_word(s, at, b"ret=", 1, Reading::Bad(at));
-    let r = or_word(s, at, b"type=", 2, r);
-    let r = or_word(s, at, b"param=", 3, r);
-    let r = or_word(s, at, b"local=", 4, r);
-    let r = or_word(s, at, b"set=", 5, r);
-    let r = or_word(s, at, b"put=", 6, r);
-    let r = or_word(s, at, b"goto=", 7, r);
-    let r = or_word(s, at, b"if=", 8, r);
-    let r = or_word(s, at, b"ifimm=", 9, r);
-    let r = or_word(s, at, b"iftag=", 10, r);
-    let r = or_word(s, at, b"ifint=", 11, r);
-    let r = or_word(s, at, b"return=", 12, r);
-    or_word(s, at, b"label=", 13, r)
+    let b = byte_at(s, at);
+    match b {
+        103 => or_word(s, at, b"goto=", 7, Reading::Bad(at)),
+        105 => {
+            let r = or_word(s, at, b"if=", 8, Reading::Bad(at));
+            let r = or_word(s, at, b"ifimm=", 9, r);
+            let r = or_word(s, at, b"iftag=", 10, r);
+            or_word(s, at, b"ifint=", 11, r)
+        }
+        108 => {
+            let r = or_word(s, at, b"local=", 4, Reading::Bad(at));
+            or_word(s, at, b"label=", 13, r)
+        }
+        112 => {
+            let r = or_word(s, at, b"param=", 3, Reading::Bad(at));
+            or_word(s, at, b"put=", 6, r)
+        }
+        114 => {
+            let r = or_word(s, at, b"ret=", 1, Reading::Bad(at));
+            or_word(s, at, b"return=", 12, r)
+        }
+        115 => or_word(s, at, b"set=", 5, Reading::Bad(at)),
+        116 => or_word(s, at, b"type=", 2, Reading::Bad(at)),
+        _ => Reading::Bad(at),
+    }
 }
 
 // Rows are part 1, variables 2, the body 3.

@@ -1,14 +1,17 @@
 -- The readers of numbers and words at a place of a text: one law for each way that the code goes. Assumes nothing.
 use native.Mathlib.Numerals.{add-one}
+use native.Mathlib.Decide.{decLt}
+use native.Mathlib.Omega.{arith}
 use lib.ListN.{drop-of-length-le}
 use lib.Seq.{drop-cons}
 use borrow.Author.Tests.{lt-ltb, le-ltb, eq-eqb, ne-eqb}
-use Rattle.rules.specs.Prelude.{ℕ, suc, _+_, _-_, _*_, _<_, _≤_, max, List, _≡_, refl, sym, ap, eqb, length, getD, drop}
+use Rattle.rules.specs.Prelude.{ℕ, suc, _+_, _-_, _*_, _<_, _≤_, max, List, _≡_, refl, sym, ap, _∙_, eqb, length, getD, drop}
 use Rattle.rules.specs.declared.Reading.{Reading}
 use Rattle.rules.specs.declared.Reading.the-variants.{Got, Bad}
 use Rattle.rules.specs.declared.Next.the-variants as N
 use Rattle.rules.specs.declared.Head.the-variants.{Node, Not}
 use Rattle.rules.specs.Laws.Tests.{by-when}
+use Rattle.text.proofs.Laws.{inside, getD-any}
 use Rattle.rules.specs.Text.Words.{byteAt, moreDigits, magnitudeAt, plainAt, minus, numberAt, agreed, orWord, byteIs, varAt, operatorAt, headOf, operatorHead, headAt}
 
 -- ---- digits, at i
@@ -43,6 +46,26 @@ module _ (s : List ℕ) (i v most : ℕ) where
           → moreDigits (drop i s) i v most ≡ moreDigits (drop (i + 1) s) (i + 1) (v * 10 + (getD s i 0 - 48)) most
       unfolding moreDigits
       at-more n e = rw (drop-cons s i 0, le-ltb (getD s i 0) 48, le-ltb 57 (getD s i 0), ne-eqb v 0, le-ltb most (v * 10 + (getD s i 0 - 48)), add-one)
+
+-- after a leading zero, by the byte there
+module _ (s : List ℕ) (at : ℕ) {b : ℕ} (e : b ≡ byteAt s at) (most : ℕ) where
+  pub zero-low : b < 48 → moreDigits (drop at s) at 0 most ≡ Got 0 at
+  zero-low l =
+      let h : at < length s = inside s at (omega arith) in
+      at-low s at 0 most h (omega (arith, getD-any s at 0 256 h))
+
+  high-by : 57 < b → Dec (at < length s) → moreDigits (drop at s) at 0 most ≡ Got 0 at
+  high-by g (yes h) = let x = getD-any s at 0 256 h in at-high s at 0 most h (omega arith) (omega arith)
+  high-by g (no h) = at-end s at 0 most (omega arith)
+
+  pub zero-high : 57 < b → moreDigits (drop at s) at 0 most ≡ Got 0 at
+  zero-high g = high-by g (decLt at (length s))
+
+  pub zero-digit : 48 ≤ b → b ≤ 57 → moreDigits (drop at s) at 0 most ≡ Bad at
+  zero-digit l g =
+      let h : at < length s = inside s at (omega arith) in
+      let x = getD-any s at 0 256 h in
+      at-zero s at 0 most h (omega arith) (omega arith) refl
 
 -- ---- a word and a text, at k and i
 
@@ -90,6 +113,9 @@ module _ (s : List ℕ) (at : ℕ) {b : ℕ} (e : b ≡ byteAt s at) where
       pub digit : b ≤ 57 → magnitudeAt s at low most ≡ moreDigits (drop (at + 1) s) (at + 1) (b - 48) most
       unfolding magnitudeAt
       digit h = rw (← e, le-ltb b low, le-ltb 57 b)
+
+      pub digit-zero : b ≡ 48 → magnitudeAt s at low most ≡ moreDigits (drop (at + 1) s) (at + 1) 0 most
+      digit-zero h = digit (omega arith) ∙ ap (λ (v : ℕ). moreDigits (drop (at + 1) s) (at + 1) v most) (omega arith)
 
   pub no-minus : (b ≡ 45 → ⊥) → numberAt s at ≡ plainAt s at
   unfolding numberAt

@@ -3,7 +3,7 @@ use rules::Head;
 use rules::Next;
 use rules::Reading;
 ghost use mathlib.Core.Path.{_≡_};
-ghost use Prim.Native.Nat.{_≤_, _<_, max};
+ghost use Prim.Native.Nat.{ℕ, _≤_, _<_, max};
 ghost use lib.ListN.{drop};
 ghost use Rattle.rules.specs.Text.Words as words;
 
@@ -45,9 +45,23 @@ pub fn next_of(r: Reading) -> usize
 
 // ---- numbers
 
-// The digits after the number `first`, which may grow to `most`.
+// After a leading zero no digit may stand.
+fn after_zero(s: &[u8], at: usize) -> Reading
+    ensures { λ r. ⌜ ((most : ℕ) → r ≡ words.moreDigits (drop at (now (s .entry))) at 0 most) ⌝ }
+{
+    let b = byte_at(s, at);
+    if b < 48 {
+        return Reading::Got(0, at);
+    }
+    if 57 < b {
+        return Reading::Got(0, at);
+    }
+    Reading::Bad(at)
+}
+
+// The digits after the number `first`, which is not 0 and may grow to `most`.
 fn more_digits(s: &[u8], from: usize, first: u64, most: u64) -> Reading
-    requires { ⌜ (most ≤ 2147483648) × (first ≤ most) ⌝ }
+    requires { ⌜ (most ≤ 2147483648) × ((1 ≤ first) × (first ≤ most)) ⌝ }
     ensures { λ r. ⌜ r ≡ words.moreDigits (drop from (now (s .entry))) from first most ⌝ }
 {
     let mut i = from;
@@ -59,9 +73,6 @@ fn more_digits(s: &[u8], from: usize, first: u64, most: u64) -> Reading
         }
         if 57 < b {
             return Reading::Got(v, i);
-        }
-        if v == 0 {
-            return Reading::Bad(i);
         }
         let next = v * 10 + (b - 48);
         if most < next {
@@ -84,6 +95,9 @@ fn magnitude_at(s: &[u8], at: usize, low: u64, most: u64) -> Reading
     }
     if 57 < b {
         return Reading::Bad(at);
+    }
+    if b == 48 {
+        return after_zero(s, at + 1);
     }
     more_digits(s, at + 1, b - 48, most)
 }
@@ -179,19 +193,25 @@ pub fn var_at(s: &[u8], at: usize) -> Reading
 
 // ---- what an expression begins with
 
-// An operator, by its number.
+// An operator, by its number. The words that begin with another byte than the one at `at` cannot stand there, nor can their wrong byte lie farther.
 fn operator_at(s: &[u8], at: usize) -> Reading
     ensures { λ r. ⌜ r ≡ words.operatorAt (now (s .entry)) at ⌝ }
 {
-    let r = or_word(s, at, b"fetch", 3, Reading::Bad(at));
-    let r = or_word(s, at, b"int", 4, r);
-    let r = or_word(s, at, b"val", 5, r);
-    let r = or_word(s, at, b"step", 6, r);
-    let r = or_word(s, at, b"add", 7, r);
-    let r = or_word(s, at, b"sub", 8, r);
-    let r = or_word(s, at, b"mul", 9, r);
-    let r = or_word(s, at, b"eq", 10, r);
-    or_word(s, at, b"lt", 11, r)
+    let b = byte_at(s, at);
+    match b {
+        97 => or_word(s, at, b"add", 7, Reading::Bad(at)),
+        101 => or_word(s, at, b"eq", 10, Reading::Bad(at)),
+        102 => or_word(s, at, b"fetch", 3, Reading::Bad(at)),
+        105 => or_word(s, at, b"int", 4, Reading::Bad(at)),
+        108 => or_word(s, at, b"lt", 11, Reading::Bad(at)),
+        109 => or_word(s, at, b"mul", 9, Reading::Bad(at)),
+        115 => {
+            let r = or_word(s, at, b"step", 6, Reading::Bad(at));
+            or_word(s, at, b"sub", 8, r)
+        }
+        118 => or_word(s, at, b"val", 5, Reading::Bad(at)),
+        _ => Reading::Bad(at),
+    }
 }
 
 // How many expressions follow an operation.

@@ -7,20 +7,10 @@ use Rattle.rules.specs.declared.Judged.{Judged}
 use Rattle.rules.specs.declared.Judged.the-variants.{No, Ok}
 use Rattle.rules.specs.Numbers.{numCode}
 use Rattle.rules.specs.Program.{Rows, Var}
-use Rattle.rules.specs.View.{Form, none, litF, varF, fetchF, intF, valF, stepF, calc, Walked, walked, treeAt}
+use Rattle.rules.specs.View.{Form, none, litF, varF, fetchF, intF, valF, stepF, calc, treeOf, treeAt}
 use Rattle.rules.specs.Typing.{intEntry, tyVar, tyArith, tyVal, tyInt, tyFetch, tyStep, type}
+use Rattle.program.specs.Nodes.{afterOf}
 use Rattle.typing.specs.declared.Found.{Found}
-
--- how many operands a form has
-abbrev pub arity : Form → ℕ
-arity none = 0
-arity litF = 0
-arity varF = 0
-arity fetchF = 1
-arity intF = 1
-arity valF = 1
-arity stepF = 2
-arity (calc o) = 2
 
 -- a node's judgement, from its argument and the judgements of its operands
 unfoldable pub form : Rows → List Var → Env → Form → ℕ → Judged → Judged → Judged
@@ -36,8 +26,5 @@ form ρ D Γ (calc o) a x y = tyArith o x y
 abbrev pub found : Judged → ℕ → Found
 found j n = record { judged = j; next = n }
 
-abbrev pub foundOf : Rows → List Var → Env → Walked → Found
-foundOf ρ D Γ (walked x n) = found (type ρ D Γ x) n
-
 unfoldable pub foundAt : Rows → List Var → Env → List ℕ → ℕ → ℕ → Found
-foundAt ρ D Γ N d k = foundOf ρ D Γ (treeAt N d k)
+foundAt ρ D Γ N d k = found (type ρ D Γ (treeOf (treeAt N d k))) (afterOf (treeAt N d k))

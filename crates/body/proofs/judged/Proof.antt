@@ -1,4 +1,4 @@
-use Rattle.body.proofs.Laws.{tree-of}
+use Rattle.typing.proofs.Laws.{tree-of}
 use borrow.Author.Needs.{needs}
 use Rattle.body.proofs.judged.Statement.{statement}
 use Rattle.body.proofs.judged.Tie as tie

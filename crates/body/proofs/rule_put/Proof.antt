@@ -1,4 +1,4 @@
-use Rattle.body.proofs.Laws.{after-of, tree-of}
+use Rattle.typing.proofs.Laws.{after-of, tree-of}
 use mathlib.Core.Path.{sym}
 use borrow.Author.Needs.{needs}
 use Rattle.body.proofs.rule_put.Statement.{statement}

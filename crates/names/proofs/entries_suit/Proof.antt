@@ -1,9 +1,10 @@
 -- `names::entries_suit` meets its contract. The loop's invariant: the entries from v on suit exactly if all do. Assumes nothing.
 use Prim.Native.Nat.{_-_, _≤_}
-use Rattle.names.proofs.Laws.{all-no, all-on, suits-absent, suits-done, suits-left}
+use Rattle.names.proofs.Laws.{suits-absent, suits-done, suits-left}
 use Rattle.rules.specs.Names.{entriesSuit, entrySuits}
 use Rattle.rules.specs.Program.{labelAt}
 use Rattle.rules.specs.View.{labelsFrom, varsFrom}
+use Rattle.table.proofs.Passes.{all-no, all-on}
 use lib.ListN.{drop}
 use mathlib.Core.Path.{_∙_, _≡_, ap₂, refl, sym}
 use native.Mathlib.Omega.{arith}

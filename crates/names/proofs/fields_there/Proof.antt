@@ -1,10 +1,11 @@
 -- `names::fields_there` meets its contract. The loop's invariant: the fields from o on are all there exactly if all are. Assumes nothing.
 use Prim.Native.Nat.{_-_, _≤_, ℕ}
-use Rattle.names.proofs.Laws.{all-no, all-on, fields-done, fields-left}
+use Rattle.names.proofs.Laws.{fields-done, fields-left}
 use Rattle.program.specs.Lines.{tablesOf}
 use Rattle.rules.specs.Names.{fieldsThere}
 use Rattle.rules.specs.Program.{fieldOf, fieldsOf, rowAt}
 use Rattle.rules.specs.View.{program, rowsFrom}
+use Rattle.table.proofs.Passes.{all-no, all-on}
 use borrow.Author.Tests.{le-ltb, lt-ltb}
 use lib.Dec.{ltb}
 use lib.ListN.{drop, getD}

@@ -1,12 +1,13 @@
 -- `names::name_body` meets its contract. The loop's invariant: what the lines from i on answer is what all answer. Assumes nothing.
 use Prim.Native.Nat.{_+_, _-_, _≤_, ℕ}
-use Rattle.names.proofs.Laws.{line-there, lines-done, lines-no, lines-on}
+use Rattle.names.proofs.Laws.{line-there}
 use Rattle.program.specs.Lines.{tablesOf}
 use Rattle.program.proofs.Laws.{lines-small}
 use Rattle.rules.specs.Answers.{first}
 use Rattle.rules.specs.Names.{nameStmt}
 use Rattle.rules.specs.Program.{badS}
 use Rattle.rules.specs.View.{bodyFrom, program}
+use Rattle.table.proofs.Passes.{lines-done, lines-no, lines-on}
 use lib.ListN.{drop}
 use mathlib.Core.List.{List, map}
 use mathlib.Core.Path.{_∙_, _≡_, ap}

@@ -1,6 +1,5 @@
 -- `names::name_rows` meets its contract. The loop's invariant: what the rows from i on answer is what all answer. Assumes nothing.
 use Prim.Native.Nat.{_+_, _-_, _≤_, ℕ}
-use Rattle.names.proofs.Laws.{lines-done, lines-no, lines-on}
 use Rattle.program.specs.Lines.{tablesOf}
 use Rattle.program.proofs.Laws.{rows-small}
 use Rattle.rules.specs.Answers.{first}
@@ -8,6 +7,7 @@ use Rattle.rules.specs.Names.{nameRow}
 use Rattle.rules.specs.Program.{rowAt}
 use Rattle.rules.specs.View.{program, rowsFrom}
 use Rattle.rules.specs.When.{need}
+use Rattle.table.proofs.Passes.{lines-done, lines-no, lines-on}
 use lib.ListN.{drop}
 use mathlib.Core.Bool.{Bool}
 use mathlib.Core.List.{List, map}

@@ -1,6 +1,5 @@
 -- `names::name_vars` meets its contract. The loop's invariant: what the variables from i on answer is what all answer. Assumes nothing.
 use Prim.Native.Nat.{_+_, _-_, _≤_, ℕ}
-use Rattle.names.proofs.Laws.{lines-done, lines-no, lines-on}
 use Rattle.program.specs.Lines.{tablesOf}
 use Rattle.program.proofs.Laws.{vars-small}
 use Rattle.rules.specs.Answers.{first}
@@ -8,6 +7,7 @@ use Rattle.rules.specs.Environments.{noVar}
 use Rattle.rules.specs.Names.{nameKind, nameVar}
 use Rattle.rules.specs.Program.{kindAt}
 use Rattle.rules.specs.View.{program, varsFrom}
+use Rattle.table.proofs.Passes.{lines-done, lines-no, lines-on}
 use lib.ListN.{drop}
 use mathlib.Core.List.{List, map}
 use mathlib.Core.Path.{_∙_, _≡_, ap}

@@ -1,10 +1,11 @@
 -- `names::products_there` meets its contract. The loop's invariant: the products from t on are all there exactly if all are. Assumes nothing.
 use Prim.Native.Nat.{_-_, _≤_, ℕ}
-use Rattle.names.proofs.Laws.{all-no, all-on, products-done, products-left}
+use Rattle.names.proofs.Laws.{products-done, products-left}
 use Rattle.program.specs.Lines.{tablesOf}
 use Rattle.rules.specs.Names.{productsThere}
 use Rattle.rules.specs.Program.{prodsOf, rowAt}
 use Rattle.rules.specs.View.{program, rowsFrom}
+use Rattle.table.proofs.Passes.{all-no, all-on}
 use lib.ListN.{drop}
 use mathlib.Core.List.{List}
 use mathlib.Core.Path.{_∙_, _≡_, refl, sym}

@@ -18,20 +18,23 @@ stmt-there-spec =
     (λ c κs. search needs)  -- label-there-requires
     (λ c κs. search needs)  -- var-count-requires
     (λ c κs. search needs)  -- there-at-requires
-    (λ c κs. search needs)  -- there-at-requires-2
     (λ c κs. search needs)  -- both-requires
+    (λ c κs. search needs)  -- there-at-requires-2
+    (λ c κs. search needs)  -- there-at-requires-3
     (λ c κs. search needs)  -- both-requires-2
+    (λ c κs. search needs)  -- there-at-requires-4
     (λ c κs. search needs)  -- both-requires-3
     (λ c κs. search needs)  -- both-requires-4
     (λ c κs. search needs)  -- both-requires-5
     (λ c κs. search needs)  -- both-requires-6
-    (λ c R D. rw (c .before .match .keys1, set-there _ _ _ (c .before .before .before .there-at .ensures R D (c .before .before .before .before .before .before .before .before .before .args .labels .now) (c .before .before .before .before .before .before .before .before .before .args .body .now)) (c .before .before .before .before .before .before .before .before .before .args .s .variable), sym (c .before .before .before .before .var-count .ensures D)) (c .both .ensures))  -- returns
-    (λ c R D. rw (c .before .match .keys2, put-there _ _ _ (numCode (c .before .before .before .before .before .before .before .before .before .args .s .word)) _ _ (c .before .before .before .there-at .ensures R D (c .before .before .before .before .before .before .before .before .before .args .labels .now) (c .before .before .before .before .before .before .before .before .before .args .body .now)) (c .before .before .there-at2 .ensures R D (c .before .before .before .before .before .before .before .before .before .args .labels .now) (c .before .before .before .before .before .before .before .before .before .args .body .now))) (c .both2 .ensures))  -- returns-2
-    (λ c R D. rw (c .match .keys3) (c .before .before .before .before .label-there .ensures _ R D))  -- returns-3
-    (λ c R D. rw (c .before .match .keys4, if-there _ _ _ (c .before .before .before .there-at .ensures R D (c .before .before .before .before .before .before .before .before .before .args .labels .now) (c .before .before .before .before .before .before .before .before .before .args .body .now)) (c .before .before .before .before .before .before .before .before .before .args .s .label), sym (c .before .before .before .before .before .label-there .ensures (c .before .before .before .before .before .before .before .before .before .args .nodes .now) R D)) (c .both3 .ensures))  -- returns-4
-    (λ c R D. rw (c .before .match .keys5, sym (c .before .before .before .before .before .label-there .ensures (c .before .before .before .before .before .before .before .before .before .args .nodes .now) R D), sym (c .before .before .before .before .var-count .ensures D)) (c .both4 .ensures))  -- returns-5
-    (λ c R D. rw (c .before .match .keys6, sym (c .before .before .before .before .before .label-there .ensures (c .before .before .before .before .before .before .before .before .before .args .nodes .now) R D), sym (c .before .before .before .before .var-count .ensures D)) (c .both5 .ensures))  -- returns-6
-    (λ c R D. rw (c .before .match .keys7, sym (c .before .before .before .before .before .label-there .ensures (c .before .before .before .before .before .before .before .before .before .args .nodes .now) R D), sym (c .before .before .before .before .var-count .ensures D)) (c .both6 .ensures))  -- returns-7
-    (λ c R D. rw (c .match .keys8, return-there _ _ _ (c .before .before .there-at .ensures R D (c .before .before .before .before .before .before .before .before .args .labels .now) (c .before .before .before .before .before .before .before .before .args .body .now))))  -- returns-8
-    (λ c R D. rw (c .match .keys9) (c .before .before .before .before .label-there .ensures _ R D))  -- returns-9
-    (λ c R D. rw (way-none (c .before .before .before .before .before .before .before .before .args .s .kind) (c .match .rest))))  -- returns-10
+    (λ c κs. search needs)  -- there-at-requires-5
+    (λ c R D. let a = c .before .before .before .before .before .before .before .before .args in rw (c .before .before .match .keys1, set-there _ _ _ (c .before .there-at .ensures R D (a .labels .now) (a .body .now)) (a .s .variable), sym (c .before .before .before .var-count .ensures D)) (c .both .ensures))  -- returns
+    (λ c R D. let a = c .before .before .before .before .before .before .before .before .before .args in rw (c .before .before .before .match .keys2, put-there _ _ _ (numCode (a .s .word)) _ _ (c .before .before .there-at2 .ensures R D (a .labels .now) (a .body .now)) (c .before .there-at3 .ensures R D (a .labels .now) (a .body .now))) (c .both2 .ensures))  -- returns-2
+    (λ c R D. rw (c .match .keys3) (c .before .before .label-there .ensures _ R D))  -- returns-3
+    (λ c R D. let a = c .before .before .before .before .before .before .before .before .args in rw (c .before .before .match .keys4, if-there _ _ _ (c .before .there-at4 .ensures R D (a .labels .now) (a .body .now)) (a .s .label), sym (c .before .before .before .before .label-there .ensures (a .nodes .now) R D)) (c .both3 .ensures))  -- returns-4
+    (λ c R D. let a = c .before .before .before .before .before .before .before .args in rw (c .before .match .keys5, sym (c .before .before .before .label-there .ensures (a .nodes .now) R D), sym (c .before .before .var-count .ensures D)) (c .both4 .ensures))  -- returns-5
+    (λ c R D. let a = c .before .before .before .before .before .before .before .args in rw (c .before .match .keys6, sym (c .before .before .before .label-there .ensures (a .nodes .now) R D), sym (c .before .before .var-count .ensures D)) (c .both5 .ensures))  -- returns-6
+    (λ c R D. let a = c .before .before .before .before .before .before .before .args in rw (c .before .match .keys7, sym (c .before .before .before .label-there .ensures (a .nodes .now) R D), sym (c .before .before .var-count .ensures D)) (c .both6 .ensures))  -- returns-7
+    (λ c R D. let a = c .before .before .before .before .before .before .before .args in rw (c .before .match .keys8, return-there _ _ _ (c .there-at5 .ensures R D (a .labels .now) (a .body .now))))  -- returns-8
+    (λ c R D. rw (c .match .keys9) (c .before .before .label-there .ensures _ R D))  -- returns-9
+    (λ c R D. rw (way-none (c .before .before .before .before .before .before .args .s .kind) (c .match .rest))))  -- returns-10

@@ -53,12 +53,13 @@ pub +expression+operands-spec : {M : Type 1} → statement M
     (λ c. search needs)  -- enum-known-h
     (λ c. let a = c .before .before .before .before .before .before .before .args in let h = c .before .before .h .given in sym (by-head (a .s .now) (a .at) (a .free) (a .nodes .now) (a .depth) (c .before .before .before .before .before .if1 .left) (sym (h .1) ∙ c .before .before .before .before .head-at .ensures) ∙ no-room (fill.expression (a .s .now) (a .depth - 1)) (h .0 .1 .1 .0) (a .free) (a .nodes .now) (h .0 .0) (h .0 .1 .0) (c .if2 .taken)))  -- returns-2
     (λ c κs. search needs)  -- put-node-requires
-    (λ c. pos-of-ne-zero (c .before .before .before .before .before .before .before .if1 .left))  -- sub-operands
+    (λ c. search needs)  -- add-f
     (λ c κs. search needs)  -- arity-requires
-    (λ c. search needs)  -- add-operands
-    (λ c κs. let a = c .before .before .before .before .before .before .before .before .before .before .before .args in let h = c .before .before .before .before .before .before .h .given in (deeper (a .depth) (c .before .arity .result) t (c .before .before .before .before .before .before .before .before .before .if1 .left) (search needs) (c .before .before .before .before .before .before .before .before .before .before .before .pre .0), (head-read (a .s .now) (a .at) (sym (c .before .before .before .before .before .before .before .before .head-at .ensures) ∙ h .1) .ends, c .before .before .before .before .before .before .before .before .before .before .before .pre .1)))  -- operands-requires
-    (λ c. let a = c .before .before .before .before .before .args in sym (by-head (a .s .now) (a .at) (a .free) (a .nodes .now) (a .depth) (c .before .before .before .if1 .left) (sym (c .enum-told .given .1) ∙ c .before .before .head-at .ensures)))  -- returns-3
-    (λ c. let a = c .before .before .before .before .before .before .before .before .before .before .before .before .args in let h = c .before .before .before .before .before .before .before .h .given in c .operands .ensures ∙ (λ i. fill.operands (fill.expression (a .s .now) (a .depth - 1)) (c .before .before .arity .ensures i) (h .0 .1 .1 .0) (a .free + 1) (c .before .before .before .put-node .ensures i)) ∙ sym (by-head (a .s .now) (a .at) (a .free) (a .nodes .now) (a .depth) (c .before .before .before .before .before .before .before .before .before .before .if1 .left) (sym (h .1) ∙ c .before .before .before .before .before .before .before .before .before .head-at .ensures) ∙ room (fill.expression (a .s .now) (a .depth - 1)) (h .0 .1 .1 .0) (a .free) (a .nodes .now) (h .0 .0) (h .0 .1 .0) (omega arith))))  -- returns-4
+    (λ c. let a = c .before .before .before .before .before .before .before .before .before .before .before .args in let h = c .before .before .before .before .before .before .h .given in sym (no-operand (fill.expression (a .s .now) (a .depth - 1)) (h .0 .1 .1 .0) (a .free + 1) (c .before .before .put-node .last .0) (c .before .arity .result) (c .if3 .taken)) ∙ (λ i. fill.operands (fill.expression (a .s .now) (a .depth - 1)) (c .before .arity .ensures i) (h .0 .1 .1 .0) (a .free + 1) (c .before .before .put-node .ensures i)) ∙ sym (by-head (a .s .now) (a .at) (a .free) (a .nodes .now) (a .depth) (c .before .before .before .before .before .before .before .before .before .if1 .left) (sym (h .1) ∙ c .before .before .before .before .before .before .before .before .head-at .ensures) ∙ room (fill.expression (a .s .now) (a .depth - 1)) (h .0 .1 .1 .0) (a .free) (a .nodes .now) (h .0 .0) (h .0 .1 .0) (omega arith)))  -- returns-3
+    (λ c. pos-of-ne-zero (c .before .before .before .before .before .before .before .before .before .if1 .left))  -- sub-operands
+    (λ c κs. let a = c .before .before .before .before .before .before .before .before .before .before .before .before .args in let h = c .before .before .before .before .before .before .before .h .given in (deeper (a .depth) (c .before .before .arity .result) t (c .before .before .before .before .before .before .before .before .before .before .if1 .left) (search needs) (c .before .before .before .before .before .before .before .before .before .before .before .before .pre .0), (head-read (a .s .now) (a .at) (sym (c .before .before .before .before .before .before .before .before .before .head-at .ensures) ∙ h .1) .ends, c .before .before .before .before .before .before .before .before .before .before .before .before .pre .1)))  -- operands-requires
+    (λ c. let a = c .before .before .before .before .before .args in sym (by-head (a .s .now) (a .at) (a .free) (a .nodes .now) (a .depth) (c .before .before .before .if1 .left) (sym (c .enum-told .given .1) ∙ c .before .before .head-at .ensures)))  -- returns-4
+    (λ c. let a = c .before .before .before .before .before .before .before .before .before .before .before .before .before .args in let h = c .before .before .before .before .before .before .before .before .h .given in c .operands .ensures ∙ (λ i. fill.operands (fill.expression (a .s .now) (a .depth - 1)) (c .before .before .before .arity .ensures i) (h .0 .1 .1 .0) (a .free + 1) (c .before .before .before .before .put-node .ensures i)) ∙ sym (by-head (a .s .now) (a .at) (a .free) (a .nodes .now) (a .depth) (c .before .before .before .before .before .before .before .before .before .before .before .if1 .left) (sym (h .1) ∙ c .before .before .before .before .before .before .before .before .before .before .head-at .ensures) ∙ room (fill.expression (a .s .now) (a .depth - 1)) (h .0 .1 .1 .0) (a .free) (a .nodes .now) (h .0 .0) (h .0 .1 .0) (omega arith))))  -- returns-5
     (λ t. operands-lts.spec (expression-below t, expression.Post, operands-below t, operands.Post)
     (operands-at t)
     operands.Post
@@ -66,8 +67,9 @@ pub +expression+operands-spec : {M : Type 1} → statement M
     (λ c. search needs)  -- add-expression
     (λ c κs. (omega (arith, c .before .before .before .pre .0), c .before .before .before .pre .1 .1))  -- expression-requires
     (λ c. search needs)  -- enum-known-r
-    (λ c. pos-of-ne-zero (c .before .before .before .before .before .if1 .left))  -- sub-operands
-    (λ c κs. let a = c .before .before .before .before .before .before .before .before .args in let e = c .before .before .before .before .expression in (omega (arith, pos-of-ne-zero (c .before .before .before .before .before .before .if1 .left), c .before .before .before .before .before .before .before .before .pre .0), (ends (a .s .now) (a .depth) (a .at + 1) (a .free) (a .nodes .now) (e .ensures) (c .before .before .r .given .1) .0, c .before .before .before .before .before .before .before .before .pre .1 .1)))  -- operands-requires
+    (λ c. let a = c .before .before .before .before .before .before .before .before .args in let e = c .before .before .before .before .expression in let g = c .before .before .r .given .0 in sym (an-operand (fill.expression (a .s .now) (a .depth)) (a .at) (a .free) (a .nodes .now) (a .n) (c .before .before .before .before .before .before .if1 .left) (e .ensures) ∙ ap (λ (x : Filling). fill.onward (fill.out x (e .last .1 .1 .1 .1 .0)) (fill.operands (fill.expression (a .s .now) (a .depth)) (a .n - 1))) (c .before .before .r .given .1) ∙ no-operand (fill.expression (a .s .now) (a .depth)) (g .0) (g .1 .0) (e .last .1 .1 .1 .1 .0) (a .n - 1) (omega (arith, c .if2 .taken))))  -- returns-2
+    (λ c. pos-of-ne-zero (c .before .before .before .before .before .before .if1 .left))  -- sub-operands
+    (λ c κs. let a = c .before .before .before .before .before .before .before .before .before .args in let e = c .before .before .before .before .before .expression in (omega (arith, pos-of-ne-zero (c .before .before .before .before .before .before .before .if1 .left), c .before .before .before .before .before .before .before .before .before .pre .0), (ends (a .s .now) (a .depth) (a .at + 1) (a .free) (a .nodes .now) (e .ensures) (c .before .before .before .r .given .1) .0, c .before .before .before .before .before .before .before .before .before .pre .1 .1)))  -- operands-requires
     (λ c. search needs)  -- enum-told
-    (λ c. let a = c .before .before .before .before .before .before .before .before .before .args in let e = c .before .before .before .before .before .expression in c .operands .ensures ∙ sym (an-operand (fill.expression (a .s .now) (a .depth)) (a .at) (a .free) (a .nodes .now) (a .n) (c .before .before .before .before .before .before .before .if1 .left) (e .ensures) ∙ ap (λ (x : Filling). fill.onward (fill.out x (e .last .1 .1 .1 .1 .0)) (fill.operands (fill.expression (a .s .now) (a .depth)) (a .n - 1))) (c .before .before .before .r .given .1)))  -- returns-2
-    (λ c. let a = c .before .before .before .before .before .before .args in let e = c .before .before .expression in sym (an-operand (fill.expression (a .s .now) (a .depth)) (a .at) (a .free) (a .nodes .now) (a .n) (c .before .before .before .before .if1 .left) (e .ensures) ∙ ap (λ (x : Filling). fill.onward (fill.out x (e .last .1 .1 .1 .1 .0)) (fill.operands (fill.expression (a .s .now) (a .depth)) (a .n - 1))) (c .enum-told .given .1))))  -- returns-3
+    (λ c. let a = c .before .before .before .before .before .before .before .before .before .before .args in let e = c .before .before .before .before .before .before .expression in c .operands .ensures ∙ sym (an-operand (fill.expression (a .s .now) (a .depth)) (a .at) (a .free) (a .nodes .now) (a .n) (c .before .before .before .before .before .before .before .before .if1 .left) (e .ensures) ∙ ap (λ (x : Filling). fill.onward (fill.out x (e .last .1 .1 .1 .1 .0)) (fill.operands (fill.expression (a .s .now) (a .depth)) (a .n - 1))) (c .before .before .before .before .r .given .1)))  -- returns-3
+    (λ c. let a = c .before .before .before .before .before .before .args in let e = c .before .before .expression in sym (an-operand (fill.expression (a .s .now) (a .depth)) (a .at) (a .free) (a .nodes .now) (a .n) (c .before .before .before .before .if1 .left) (e .ensures) ∙ ap (λ (x : Filling). fill.onward (fill.out x (e .last .1 .1 .1 .1 .0)) (fill.operands (fill.expression (a .s .now) (a .depth)) (a .n - 1))) (c .enum-told .given .1))))  -- returns-4

@@ -1,8 +1,8 @@
 use Rattle.rules.specs.View.{formOf}
-use Rattle.typing.proofs.Laws.{form-rest}
+use Rattle.program.proofs.Walk.{form-rest}
 use mathlib.Core.Path.{refl}
-use Rattle.typing.proofs.operands.Statement.{statement}
-use Rattle.typing.proofs.operands.Tie as tie
+use Rattle.program.proofs.operands.Statement.{statement}
+use Rattle.program.proofs.operands.Tie as tie
 
 pub operands-spec : {M : Type 1} → statement M
 unfolding formOf
