@@ -1,0 +1,2 @@
+-- The ways of the code. Assumes nothing.
+pub mod Ways
