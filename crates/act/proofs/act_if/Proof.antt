@@ -1,0 +1,22 @@
+use Rattle.rules.specs.Machine.{actIf}
+use mathlib.Core.Path.{refl, sym}
+use borrow.Author.Needs.{needs}
+use Rattle.act.proofs.act_if.Statement.{statement}
+use Rattle.act.proofs.act_if.Tie as tie
+
+pub act-if-spec : {M : Type 1} → statement M
+unfolding actIf
+act-if-spec =
+    tie.close
+    (tie.spec
+    (λ c. search needs)  -- enum-told
+    (λ c. search needs)  -- enum-known-x
+    (λ c. search needs)  -- enum-known-d
+    (λ c κs. search needs)  -- is-zero-requires
+    (λ c κs. search needs)  -- jump-on-requires
+    (λ c. search needs)  -- enum-told-2
+    (λ c. search needs)  -- enum-told-3
+    (λ c N R D. rw (c .enum-told .given .1) refl)  -- returns
+    (λ c N R D. rw (c .before .before .before .before .before .before .x .given .1) (rw (c .before .before .before .d .given .1) (rw (sym (c .before .is-zero .ensures)) (c .jump-on .ensures N R D))))  -- returns-2
+    (λ c N R D. rw (c .before .before .before .x .given .1) (rw (c .enum-told2 .given .1) refl))  -- returns-3
+    (λ c N R D. rw (c .before .before .before .x .given .1) (rw (c .enum-told3 .given .1) refl)))  -- returns-4

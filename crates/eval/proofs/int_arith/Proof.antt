@@ -1,0 +1,21 @@
+use Rattle.rules.specs.Machine.{evArith}
+use mathlib.Core.Path.{refl}
+use borrow.Author.Needs.{needs}
+use Rattle.eval.proofs.int_arith.Statement.{statement}
+use Rattle.eval.proofs.int_arith.Tie as tie
+
+pub int-arith-spec : {M : Type 1} → statement M
+unfolding evArith
+int-arith-spec =
+    tie.close
+    (tie.spec
+    (λ c. search needs)  -- enum-told
+    (λ c. search needs)  -- enum-known-y
+    (λ c. search needs)  -- enum-known-d
+    (λ c κs. search needs)  -- arith-requires
+    (λ c. search needs)  -- enum-told-2
+    (λ c. search needs)  -- enum-told-3
+    (λ c. rw (c .enum-told .given .1) refl)  -- returns
+    (λ c. rw (c .before .before .before .before .before .y .given .1) (rw (c .before .before .d .given .1) (rw (c .arith .ensures) refl)))  -- returns-2
+    (λ c. rw (c .before .before .before .y .given .1) (rw (c .enum-told2 .given .1) refl))  -- returns-3
+    (λ c. rw (c .before .before .before .y .given .1) (rw (c .enum-told3 .given .1) refl)))  -- returns-4

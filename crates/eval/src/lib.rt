@@ -1,0 +1,245 @@
+// What an expression gives in the machine, over the tables of a program and of a store.
+// Operands are evaluated left to right, each with the node after it; then the form itself. Any numbers in the tables are answered.
+ghost use mathlib.Core.Path.{_≡_};
+ghost use mathlib.Core.List.{List};
+ghost use Prim.Native.Nat.{ℕ};
+ghost use lib.IntN.{pos, _+ℤ_};
+ghost use lib.ListN.{length};
+ghost use Rattle.rules.specs.Program.{Rows};
+ghost use Rattle.rules.specs.View.{rowsFrom, varsFrom, formOf};
+ghost use Rattle.rules.specs.Machine.{Store, evVar, evArith, evVal, evInt, evFetch, moved, evStep};
+ghost use Rattle.rules.specs.Machine.Tables.{storeOf, valsOf};
+ghost use Rattle.program.specs.Nodes.{arity};
+ghost use Rattle.eval.specs.Walk.{form, gave, gaveAt};
+use number::Index;
+use rules::Datum;
+use rules::Given;
+use rules::Limits;
+use rules::Num;
+use rules::Op;
+
+// What a node's expression gives, and the node after it.
+pub struct Gave {
+    pub given: Given,
+    pub next: usize,
+}
+
+// ---- arithmetic, `val` and `int`
+
+// The first operand is a C int; the second must be one too.
+fn int_arith(op: Op, a: Num, y: Given) -> Given
+    ensures { λ g. ⌜ g ≡ evArith op (Given.Has (Datum.Int a)) y ⌝ }
+{
+    match y {
+        Given::Stuck => Given::Stuck,
+        Given::Has(d) => match d {
+            Datum::Int(b) => Given::Has(Datum::Int(number::arith(op, a, b))),
+            Datum::Imm(_) => Given::Stuck,
+            Datum::Place(_, _) => Given::Stuck,
+        },
+    }
+}
+
+fn ev_arith(op: Op, x: Given, y: Given) -> Given
+    ensures { λ g. ⌜ g ≡ evArith op x y ⌝ }
+{
+    match x {
+        Given::Stuck => Given::Stuck,
+        Given::Has(d) => match d {
+            Datum::Int(a) => int_arith(op, a, y),
+            Datum::Imm(_) => Given::Stuck,
+            Datum::Place(_, _) => Given::Stuck,
+        },
+    }
+}
+
+// The row of `val` must be there; what stands in it plays no part.
+fn ev_val(size: &[u32; 6], r: usize, x: Given) -> Given
+    ensures { λ g. ⌜ ((R : List ℕ) → g ≡ evVal (rowsFrom (now (size .entry)) R) r x) ⌝ }
+{
+    match x {
+        Given::Stuck => Given::Stuck,
+        Given::Has(d) => match d {
+            Datum::Int(n) => {
+                if program::row_there(size, r) {
+                    Given::Has(Datum::Imm(n))
+                } else {
+                    Given::Stuck
+                }
+            }
+            Datum::Imm(_) => Given::Stuck,
+            Datum::Place(_, _) => Given::Stuck,
+        },
+    }
+}
+
+fn ev_int(x: Given) -> Given
+    ensures { λ g. ⌜ g ≡ evInt x ⌝ }
+{
+    match x {
+        Given::Stuck => Given::Stuck,
+        Given::Has(d) => match d {
+            Datum::Int(_) => Given::Stuck,
+            Datum::Imm(n) => Given::Has(Datum::Int(n)),
+            Datum::Place(_, _) => Given::Stuck,
+        },
+    }
+}
+
+// ---- `fetch` and `step`
+
+// Outside the block there is no cell, and nothing is given.
+fn ev_fetch(store: &[u32; 2], heads: &[u32; 768], cells: &[u64; 4352], x: Given) -> Given
+    ensures { λ g. ⌜ g ≡ evFetch (storeOf (now (store .entry)) (now (heads .entry)) (now (cells .entry))) x ⌝ }
+{
+    match x {
+        Given::Stuck => Given::Stuck,
+        Given::Has(d) => match d {
+            Datum::Int(_) => Given::Stuck,
+            Datum::Imm(_) => Given::Stuck,
+            Datum::Place(b, o) => storage::cell_at(store, heads, cells, b, o),
+        },
+    }
+}
+
+// The place at offset o of block b, moved by m over whole numbers. Here alone an amount is added to an offset.
+pub fn moved(store: &[u32; 2], heads: &[u32; 768], b: usize, o: usize, m: Num) -> Given
+    ensures { λ g. ⌜ ((C : List ℕ) → g ≡ moved (storeOf (now (store .entry)) (now (heads .entry)) C) b (pos o +ℤ m .n)) ⌝ }
+{
+    match number::place_in(o, m, storage::cell_count(store, heads, b)) {
+        Index::At(k) => Given::Has(Datum::Place(b, k)),
+        Index::Outside => Given::Stuck,
+    }
+}
+
+// The first operand is a place; the amount must be a C int.
+fn place_step(store: &[u32; 2], heads: &[u32; 768], b: usize, o: usize, y: Given) -> Given
+    ensures { λ g. ⌜ ((C : List ℕ) → g ≡ evStep (storeOf (now (store .entry)) (now (heads .entry)) C) (Given.Has (Datum.Place b o)) y) ⌝ }
+{
+    match y {
+        Given::Stuck => Given::Stuck,
+        Given::Has(d) => match d {
+            Datum::Int(m) => moved(store, heads, b, o, m),
+            Datum::Imm(_) => Given::Stuck,
+            Datum::Place(_, _) => Given::Stuck,
+        },
+    }
+}
+
+fn ev_step(store: &[u32; 2], heads: &[u32; 768], x: Given, y: Given) -> Given
+    ensures { λ g. ⌜ ((C : List ℕ) → g ≡ evStep (storeOf (now (store .entry)) (now (heads .entry)) C) x y) ⌝ }
+{
+    match x {
+        Given::Stuck => Given::Stuck,
+        Given::Has(d) => match d {
+            Datum::Int(_) => Given::Stuck,
+            Datum::Imm(_) => Given::Stuck,
+            Datum::Place(b, o) => place_step(store, heads, b, o, y),
+        },
+    }
+}
+
+// ---- the walk
+
+// What variable v holds.
+pub fn var_given(size: &[u32; 6], vals: &[u64; 32], v: usize) -> Given
+    ensures { λ g. ⌜ ((D : List ℕ) → g ≡ evVar (valsOf (length (varsFrom (now (size .entry)) D)) (now (vals .entry))) v) ⌝ }
+{
+    storage::val_at(program::var_count(size), vals, v)
+}
+
+// The forms by how many operands they have: each is one call of the walk, with what the operands give.
+
+// A number or a variable; no other operation that has no operands gives anything.
+fn leaf(size: &[u32; 6], vals: &[u64; 32], op: u32, a: u32) -> Given
+    requires { ⌜ arity (formOf op) ≡ 0 ⌝ }
+    ensures { λ g. ⌜ ((ρ : Rows) (σ : Store) (D : List ℕ) → g ≡ form ρ σ (valsOf (length (varsFrom (now (size .entry)) D)) (now (vals .entry))) (formOf op) a Given.Stuck Given.Stuck) ⌝ }
+{
+    match op {
+        1 => Given::Has(Datum::Int(number::number(a))),
+        2 => var_given(size, vals, a as usize),
+        _ => Given::Stuck,
+    }
+}
+
+fn one_operand(
+    size: &[u32; 6],
+    store: &[u32; 2],
+    heads: &[u32; 768],
+    cells: &[u64; 4352],
+    op: u32,
+    a: u32,
+    x: Given,
+) -> Given
+    requires { ⌜ arity (formOf op) ≡ 1 ⌝ }
+    ensures { λ g. ⌜ ((R W : List ℕ) (n : ℕ) → g ≡ form (rowsFrom (now (size .entry)) R) (storeOf (now (store .entry)) (now (heads .entry)) (now (cells .entry))) (valsOf n W) (formOf op) a x Given.Stuck) ⌝ }
+{
+    match op {
+        3 => ev_fetch(store, heads, cells, x),
+        4 => ev_int(x),
+        5 => ev_val(size, a as usize, x),
+        _ => Given::Stuck,
+    }
+}
+
+fn two_operands(store: &[u32; 2], heads: &[u32; 768], op: u32, x: Given, y: Given) -> Given
+    requires { ⌜ (arity (formOf op) ≡ 0 → ⊥) × (arity (formOf op) ≡ 1 → ⊥) ⌝ }
+    ensures { λ g. ⌜ ((ρ : Rows) (C W : List ℕ) (n a : ℕ) → g ≡ form ρ (storeOf (now (store .entry)) (now (heads .entry)) C) (valsOf n W) (formOf op) a x y) ⌝ }
+{
+    match op {
+        6 => ev_step(store, heads, x, y),
+        7 => ev_arith(Op::Add, x, y),
+        8 => ev_arith(Op::Sub, x, y),
+        9 => ev_arith(Op::Mul, x, y),
+        10 => ev_arith(Op::Eq, x, y),
+        11 => ev_arith(Op::Lt, x, y),
+        _ => Given::Stuck,
+    }
+}
+
+fn gives(g: Given, n: usize) -> Gave
+    ensures { λ r. ⌜ r ≡ gave g n ⌝ }
+{
+    Gave { given: g, next: n }
+}
+
+// What the expression at a node gives. Past the depth and past the last node nothing is there, and it is stuck.
+pub fn given_at(
+    size: &[u32; 6],
+    nodes: &[u64; 4096],
+    store: &[u32; 2],
+    heads: &[u32; 768],
+    cells: &[u64; 4352],
+    vals: &[u64; 32],
+    depth: usize,
+    at: usize,
+) -> Gave
+    ensures { λ g. ⌜ ((R D : List ℕ) → g ≡ gaveAt (rowsFrom (now (size .entry)) R) (storeOf (now (store .entry)) (now (heads .entry)) (now (cells .entry))) (valsOf (length (varsFrom (now (size .entry)) D)) (now (vals .entry))) (now (nodes .entry)) depth at) ⌝ }
+{
+    let none = Given::Stuck;
+    if depth == 0 {
+        return gives(none, at);
+    }
+    if Limits::NODES <= at {
+        return gives(none, at);
+    }
+    let op = program::operation(nodes, at);
+    let a = program::argument(nodes, at);
+    let n = program::operands(op);
+    let first = at + 1;
+    if n == 0 {
+        let g = leaf(size, vals, op, a);
+        return gives(g, first);
+    }
+    let x = given_at(size, nodes, store, heads, cells, vals, depth - 1, first);
+    let v = x.given;
+    let second = x.next;
+    if n == 1 {
+        let g = one_operand(size, store, heads, cells, op, a, v);
+        return gives(g, second);
+    }
+    let y = given_at(size, nodes, store, heads, cells, vals, depth - 1, second);
+    let u = y.given;
+    let after = y.next;
+    gives(two_operands(store, heads, op, v, u), after)
+}
