@@ -2,8 +2,10 @@
 use borrow.Author.Tests.{ne-eqb, eq-eqb, eqb-false, eqb-true}
 use Rattle.rules.specs.Prelude.{ℕ, List, Bool, true, false, _≡_, refl, sym, ap, _∙_, subst}
 use Rattle.rules.specs.declared.Answer.{Answer}
+use Rattle.rules.specs.declared.Verdict.{Verdict}
+use Rattle.rules.specs.declared.Verdict.the-variants as C
 use Rattle.rules.specs.When.{One, when}
-use Rattle.rules.specs.Answers.{accepted, passes, andThen}
+use Rattle.rules.specs.Answers.{accepted, passes, andThen, caseOf}
 use Rattle.rules.specs.Text.Layout.{Tables, zeros}
 use Rattle.rules.specs.Text.{TextOut, readText}
 use Rattle.rules.specs.Program.{Prog}
@@ -60,8 +62,8 @@ module _ (Z N R D L B : List ℕ) where
   held : (o : TextOut) (a : Answer) → Holds o a Z N R D L B → tablesOf Z N R D L B ≡ o .tables
   held o a h = λ i. record { size = h .size i; nodes = h .nodes i; rows = h .rows i; vars = h .vars i; labels = h .labels i; body = h .body i }
 
-  says : (c : Checked) (a : Answer) → a ≡ c .verdict → tablesOf Z N R D L B ≡ c .tables → Says c a Z N R D L B
-  says c a e h =
+  says : (c : Checked) (v : Verdict) → v ≡ caseOf (c .verdict) → tablesOf Z N R D L B ≡ c .tables → Says c v Z N R D L B
+  says c v e h =
       record {
         answer = e;
         size = ap (λ (t : Tables). t .size) h;
@@ -72,13 +74,15 @@ module _ (Z N R D L B : List ℕ) where
         body = ap (λ (t : Tables). t .body) h;
       }
 
-  pub refused : (s : List ℕ) (a : Answer) → checked s .verdict ≡ a → (a .number ≡ 0 → ⊥) → tablesOf Z N R D L B ≡ zeros → Says (checked s) a Z N R D L B
+  pub refused : (s : List ℕ) (a : Answer) (v : Verdict) → v ≡ caseOf a → checked s .verdict ≡ a → (a .number ≡ 0 → ⊥) → tablesOf Z N R D L B ≡ zeros → Says (checked s) v Z N R D L B
   unfolding verdict
-  refused s a e n h = says (checked s) a (sym e) (h ∙ sym (refused-tables s (λ z. n (subst (λ (x : Answer). x .number ≡ 0) e z))))
+  refused s a v k e n h = says (checked s) v (k ∙ ap caseOf (sym e)) (h ∙ sym (refused-tables s (λ z. n (subst (λ (x : Answer). x .number ≡ 0) e z))))
 
-  pub passed : (s : List ℕ) (a : Answer) → checked s .verdict ≡ a → a .number ≡ 0 → tablesOf Z N R D L B ≡ readText s .tables → Says (checked s) a Z N R D L B
-  unfolding verdict
-  passed s a e z h = says (checked s) a (sym e) (h ∙ sym (accepted-tables s (verdict-plain s (subst (λ (x : Answer). x .number ≡ 0) (sym e) z))))
+  pub passed : (s : List ℕ) (a : Answer) → checked s .verdict ≡ a → a .number ≡ 0 → tablesOf Z N R D L B ≡ readText s .tables → Says (checked s) C.Accepted Z N R D L B
+  unfolding verdict caseOf
+  passed s a e z h =
+      let p : checked s .verdict ≡ accepted = verdict-plain s (subst (λ (x : Answer). x .number ≡ 0) (sym e) z) in
+      says (checked s) C.Accepted (sym (ap caseOf p)) (h ∙ sym (accepted-tables s p))
 
 -- ---- the ways through the stages
 

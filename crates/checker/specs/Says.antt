@@ -1,10 +1,11 @@
 -- An answer and six tables are what the rules say of a text. Assumes nothing.
 use Rattle.rules.specs.Prelude.{ℕ, List, _≡_}
-use Rattle.rules.specs.declared.Answer.{Answer}
+use Rattle.rules.specs.declared.Verdict.{Verdict}
+use Rattle.rules.specs.Answers.{caseOf}
 use Rattle.rules.specs.Check.{Checked}
 
-pub record Says (c : Checked) (a : Answer) (Z N R D L B : List ℕ) : Type 0 where
-  pub answer : a ≡ c .verdict
+pub record Says (c : Checked) (v : Verdict) (Z N R D L B : List ℕ) : Type 0 where
+  pub answer : v ≡ caseOf (c .verdict)
   pub size : Z ≡ c .tables .size
   pub nodes : N ≡ c .tables .nodes
   pub rows : R ≡ c .tables .rows

@@ -1,10 +1,11 @@
 // The checker: the stages in order, the earliest that refuses wins.
 ghost use mathlib.Core.Path.{_≡_};
+ghost use Rattle.rules.specs.Answers.{caseOf};
 ghost use Rattle.rules.specs.Check.{checked, verdict};
 ghost use Rattle.checker.specs.Says.{Says};
-use rules::Answer;
+use rules::Verdict;
 
-// The answer to a glue text, with the program in the tables if it is 0. Whatever they held before, they are all 0 on a refusal.
+// The answer to a glue text, with the program in the tables if it is accepted. Whatever they held before, they are all 0 on a refusal.
 pub fn check(
     s: &[u8],
     size: &mut [u32; 6],
@@ -13,29 +14,30 @@ pub fn check(
     vars: &mut [u32; 96],
     labels: &mut [u64; 6208],
     lines: &mut [u32; 2560],
-) -> Answer
+) -> Verdict
     ensures { λ r. ⌜ Says (checked (now (s .entry))) r (now (size .exit)) (now (nodes .exit)) (now (rows .exit)) (now (vars .exit)) (now (labels .exit)) (now (lines .exit)) ⌝ }
 {
     let a = glue::read(s, size, nodes, rows, vars, labels, lines);
     if a.number != 0 {
         program::clear(size, nodes, rows, vars, labels, lines);
-        return a;
+        return answers::case_of(a);
     }
     let b = body::typed(size, rows, vars, labels, nodes, lines);
     if b.number != 0 {
         program::clear(size, nodes, rows, vars, labels, lines);
-        return b;
+        return answers::case_of(b);
     }
     let last = body::ended(size, lines);
     if last.number != 0 {
         program::clear(size, nodes, rows, vars, labels, lines);
+        return answers::case_of(last);
     }
-    last
+    Verdict::Accepted
 }
 
 // The answer alone, with tables of its own.
-pub fn answer(s: &[u8]) -> Answer
-    ensures { λ r. ⌜ r ≡ verdict (now (s .entry)) ⌝ }
+pub fn answer(s: &[u8]) -> Verdict
+    ensures { λ r. ⌜ r ≡ caseOf (verdict (now (s .entry))) ⌝ }
 {
     let mut size = [0u32; 6];
     let mut nodes = [0u64; 4096];

@@ -1,0 +1,1 @@
+// The three demands, of the code. No function is here; see specs/.
