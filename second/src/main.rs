@@ -10,8 +10,8 @@ use std::time::Instant;
 use second::make::{self, Counts};
 use second::{check, run, run_audited, Outcome, GLUE_BYTES, JOINED_BYTES};
 
-const USAGE: &str = "usage: second check | run | many | manyrun | audit | \
-                     make SEED COUNT [glue] | count SEED COUNT | bench";
+const USAGE: &str = "usage: second check | run | many | audit | \
+                     make SEED COUNT | count SEED COUNT | bench";
 
 fn main() -> ExitCode {
     let args: Vec<String> = std::env::args().skip(1).collect();
@@ -32,27 +32,17 @@ fn main() -> ExitCode {
 
 fn command(words: &[&str], out: &mut impl Write) -> io::Result<()> {
     match *words {
-        ["check"] => {
-            let (answer, line) = check(&prefix(GLUE_BYTES + 1)?);
-            writeln!(out, "answer={answer}\nline={line}")
-        }
-        ["run"] => {
-            let outcome = run(&prefix(JOINED_BYTES)?);
-            let verdict = outcome.verdict;
-            writeln!(out, "answer={}\nline={}", verdict.answer, verdict.line)?;
-            writeln!(out, "state={}\nsteps={}", outcome.state, outcome.steps)?;
-            writeln!(out, "value={}", value(&outcome))
-        }
-        ["many"] => each(GLUE_BYTES + 1, |text| {
-            let (answer, line) = check(text);
-            writeln!(out, "{answer} {line}")
+        ["check"] => show_check(out, &prefix(GLUE_BYTES + 1)?),
+        ["run"] => show_run(out, &run(&prefix(JOINED_BYTES)?)),
+        ["many"] => each(|program, text| match program {
+            Program::Check => show_check(out, text),
+            Program::Run => show_run(out, &run(text)),
         }),
-        ["manyrun"] => each(JOINED_BYTES, |text| one_line(out, &run(text))),
-        ["audit"] => each(JOINED_BYTES, |text| {
-            one_line(out, &run_audited(text, u32::MAX).map_err(Error::other)?)
+        ["audit"] => each(|program, text| match program {
+            Program::Check => show_check(out, text),
+            Program::Run => show_run(out, &run_audited(text, u32::MAX).map_err(Error::other)?),
         }),
-        ["make", seed, count] => make_texts(out, number(seed)?, number(count)?, false),
-        ["make", seed, count, "glue"] => make_texts(out, number(seed)?, number(count)?, true),
+        ["make", seed, count] => make_texts(out, number(seed)?, number(count)?),
         ["count", seed, count] => {
             let seed = number(seed)?;
             let mut counts = Counts::default();
@@ -79,30 +69,54 @@ fn value(outcome: &Outcome) -> String {
     outcome.value.map_or("none".to_owned(), |datum| datum.to_string())
 }
 
-fn one_line(out: &mut impl Write, outcome: &Outcome) -> io::Result<()> {
+fn show_check(out: &mut impl Write, text: &[u8]) -> io::Result<()> {
+    let (answer, line) = check(text);
+    writeln!(out, "answer={answer}\nline={line}")
+}
+
+fn show_run(out: &mut impl Write, outcome: &Outcome) -> io::Result<()> {
     let Outcome { verdict, state, steps, .. } = outcome;
-    writeln!(out, "{} {} {state} {steps} {}", verdict.answer, verdict.line, value(outcome))
+    writeln!(out, "answer={}\nline={}", verdict.answer, verdict.line)?;
+    writeln!(out, "state={state}\nsteps={steps}\nvalue={}", value(outcome))
+}
+
+/// Which of the two programs a text is for.
+enum Program {
+    Check,
+    Run,
+}
+
+/// A program and a byte count, from a line `check N` or `run N`.
+fn header(line: &[u8]) -> Option<(Program, u64)> {
+    let line = std::str::from_utf8(line.strip_suffix(b"\n")?).ok()?;
+    let (word, digits) = line.split_once(' ')?;
+    let program = match word {
+        "check" => Program::Check,
+        "run" => Program::Run,
+        _ => return None,
+    };
+    let plain = digits.bytes().all(|b| b.is_ascii_digit());
+    Some((program, digits.parse().ok().filter(|_| plain)?))
 }
 
 /// Calls `act` with each text of standard input, or with the part of it that
 /// decides its answer.
-fn each(most: usize, mut act: impl FnMut(&[u8]) -> io::Result<()>) -> io::Result<()> {
+fn each(mut act: impl FnMut(Program, &[u8]) -> io::Result<()>) -> io::Result<()> {
     let broken = |what: &str| Error::new(ErrorKind::InvalidData, what.to_owned());
     let mut input = io::BufReader::with_capacity(1 << 16, io::stdin().lock());
-    let mut count = Vec::new();
+    let mut line = Vec::new();
     let mut text = Vec::new();
     loop {
-        count.clear();
-        (&mut input).take(21).read_until(b'\n', &mut count)?;
-        if count.is_empty() {
+        line.clear();
+        (&mut input).take(27).read_until(b'\n', &mut line)?;
+        if line.is_empty() {
             return Ok(());
         }
-        let length: u64 = count
-            .strip_suffix(b"\n")
-            .filter(|digits| digits.iter().all(u8::is_ascii_digit))
-            .and_then(|digits| std::str::from_utf8(digits).ok())
-            .and_then(|digits| digits.parse().ok())
-            .ok_or_else(|| broken("a byte count is missing"))?;
+        let (program, length) = header(&line).ok_or_else(|| broken("a header is missing"))?;
+        let most = match program {
+            Program::Check => GLUE_BYTES + 1,
+            Program::Run => JOINED_BYTES,
+        };
         text.clear();
         let kept = length.min(most as u64);
         (&mut input).take(kept).read_to_end(&mut text)?;
@@ -110,16 +124,20 @@ fn each(most: usize, mut act: impl FnMut(&[u8]) -> io::Result<()>) -> io::Result
         if text.len() as u64 + dropped != length {
             return Err(broken("the last text is cut short"));
         }
-        act(&text)?;
+        act(program, &text)?;
     }
 }
 
-fn make_texts(out: &mut impl Write, seed: u64, count: u64, glue: bool) -> io::Result<()> {
+/// Each text twice: its glue for the checking program, the whole for the
+/// running one.
+fn make_texts(out: &mut impl Write, seed: u64, count: u64) -> io::Result<()> {
     for at in 0..count {
         let joined = make::text(seed, at);
-        let text = if glue { second::split(&joined).0 } else { &joined };
-        writeln!(out, "{}", text.len())?;
-        out.write_all(text)?;
+        let glue = second::split(&joined).0;
+        writeln!(out, "check {}", glue.len())?;
+        out.write_all(glue)?;
+        writeln!(out, "run {}", joined.len())?;
+        out.write_all(&joined)?;
     }
     Ok(())
 }

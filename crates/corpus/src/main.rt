@@ -1,8 +1,6 @@
-// Many texts from standard input: for each its length in bytes, in decimal, a line feed, then that many bytes.
-// A line is printed for each: the number and the line of its answer.
+// Many texts from standard input: for each a line `check N` or `run N`, then N bytes. What the checking or the running program prints is printed for each.
 use libc::STDIN_FILENO;
 use libc::STDOUT_FILENO;
-use rules::Answer;
 
 // The next byte of the input, 256 at its end.
 fn next_byte() -> u64 {
@@ -75,37 +73,69 @@ fn pass_over(n: usize) {
     }
 }
 
-fn show(a: Answer) {
-    io::print_decimal(STDOUT_FILENO, a.number as u64);
-    io::write_all(STDOUT_FILENO, b" ");
-    io::print_decimal(STDOUT_FILENO, a.line as u64);
-    io::write_all(STDOUT_FILENO, b"\n");
-}
-
-// A text is judged by as much of it as decides its answer.
-fn one_text(n: usize) {
+// A glue text is judged by as much of it as decides its answer.
+fn check_text(n: usize) {
     let mut room = [0u8; 32769];
     let text: &mut [u8] = &mut room;
     let got = read_into(text, n);
-    judge_first(text, got);
+    check_first(text, got);
+    pass_rest(n, got);
+}
+
+fn check_first(text: &[u8], n: usize) {
+    let mut out = [0u8; 128];
+    if n <= text.len() {
+        let m = told::check_prints(&text[..n], &mut out);
+        io::write_all(STDOUT_FILENO, &out[..m]);
+    }
+}
+
+// So is a joined text.
+fn run_text(n: usize) {
+    let mut room = [0u8; 49153];
+    let text: &mut [u8] = &mut room;
+    let got = read_into(text, n);
+    run_first(text, got);
+    pass_rest(n, got);
+}
+
+fn run_first(text: &[u8], n: usize) {
+    let mut out = [0u8; 128];
+    if n <= text.len() {
+        let m = told::run_prints(&text[..n], &mut out);
+        io::write_all(STDOUT_FILENO, &out[..m]);
+    }
+}
+
+fn pass_rest(n: usize, got: usize) {
     if got < n {
         pass_over(n - got);
     }
 }
 
-fn judge_first(text: &[u8], n: usize) {
-    if n <= text.len() {
-        show(checker::answer(&text[..n]));
+// The text of a header that begins with the byte b; false at the end of the input.
+fn next_text(b: u64) -> bool {
+    let run = b == 114;
+    pass_over(if run { 3 } else { 5 });
+    match next_length() {
+        Length::Of(n) => {
+            if run {
+                run_text(n);
+            } else {
+                check_text(n);
+            }
+            true
+        }
+        Length::End => false,
     }
 }
 
 fn main() {
     let mut texts: usize = 0;
     while texts < 1000000 {
-        let length = next_length();
-        match length {
-            Length::Of(n) => one_text(n),
-            Length::End => return,
+        let b = next_byte();
+        if !next_text(b) {
+            return;
         }
         texts += 1;
     }

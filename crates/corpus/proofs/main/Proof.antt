@@ -1,8 +1,11 @@
--- `corpus::main` meets its contract: the texts are counted up to a bound, so that the program ends. Assumes nothing.
 use Prim.Native.Nat.{_≤_, _-_}
 use borrow.Author.Needs.{needs}
 use Rattle.corpus.proofs.main.Statement.{statement}
 use Rattle.corpus.proofs.main.Tie as tie
+use Rattle.corpus.proofs.main.Reads as reads
+use Rattle.corpus.proofs.main.Lts as lts
+use Rattle.corpus.proofs.next_byte.Reads as next-byte-reads
+use Rattle.corpus.proofs.next_text.Reads as next-text-reads
 
 abbrev Inv-loop : tie.InvT-loop
 Inv-loop texts₀ texts = texts ≤ 1000000
@@ -10,33 +13,35 @@ Inv-loop texts₀ texts = texts ≤ 1000000
 abbrev μ-loop : tie.MeasureT-loop
 μ-loop texts₀ texts = 1000000 - texts
 
+-- src/main.rt:135:5
 loop-holds : tie.Need-loop-holds Inv-loop μ-loop
 loop-holds c = search needs
 
-next-length-requires : tie.Need-next-length-requires Inv-loop μ-loop
-next-length-requires c κs = search needs
+-- src/main.rt:136:13
+next-byte-requires : tie.Need-next-byte-requires Inv-loop μ-loop
+next-byte-requires c κs = search needs
 
-enum-known-length : tie.Need-enum-known-length Inv-loop μ-loop
-enum-known-length c = search needs
+-- src/main.rt:137:13
+next-text-requires : tie.Need-next-text-requires Inv-loop μ-loop
+next-text-requires c κs = search needs
 
-one-text-requires : tie.Need-one-text-requires Inv-loop μ-loop
-one-text-requires c κs = search needs
-
-enum-told : tie.Need-enum-told Inv-loop μ-loop
-enum-told c = search needs
-
+-- src/main.rt:138:13
 returns : tie.Need-returns Inv-loop μ-loop
 returns c = search needs
 
+-- src/main.rt:140:9
 add-texts : tie.Need-add-texts Inv-loop μ-loop
 add-texts c = search needs
 
+-- src/main.rt:135:5
 loop-less : tie.Need-loop-less Inv-loop μ-loop
 loop-less c = search needs
 
+-- src/main.rt:135:5
 loop-again : tie.Need-loop-again Inv-loop μ-loop
 loop-again c = search needs
 
+-- src/main.rt:133:1
 returns-2 : tie.Need-returns-2 Inv-loop μ-loop
 returns-2 c = search needs
 
@@ -47,10 +52,8 @@ main-spec =
     Inv-loop
     μ-loop
     loop-holds
-    next-length-requires
-    enum-known-length
-    one-text-requires
-    enum-told
+    next-byte-requires
+    next-text-requires
     returns
     add-texts
     loop-less
