@@ -36,16 +36,18 @@ fn refused(answer: u32, line: u32) -> String {
     format!("answer={answer}\nline={line}\nstate=none\nsteps=0\nvalue=none\n")
 }
 
-/// Texts as `many` reads them.
-fn file(texts: &[&[u8]]) -> Vec<u8> {
-    let count = |text: &[u8]| format!("{}\n", text.len()).into_bytes();
-    texts.iter().flat_map(|text| [count(text), text.to_vec()].concat()).collect()
+/// Texts as `many` reads them, each for the program that is named.
+fn file(texts: &[(&str, &[u8])]) -> Vec<u8> {
+    let header = |program: &str, text: &[u8]| format!("{program} {}\n", text.len()).into_bytes();
+    let part = |&(program, text): &(&str, &[u8])| [header(program, text), text.to_vec()].concat();
+    texts.iter().flat_map(part).collect()
 }
+
+const DONE: &str = "answer=0\nline=0\nstate=done\nsteps=4\nvalue=c320\n";
 
 #[test]
 fn listing() {
-    let done = "answer=0\nline=0\nstate=done\nsteps=4\nvalue=c320\n";
-    assert_eq!(second(&["run"], P), done);
+    assert_eq!(second(&["run"], P), DONE);
     assert_eq!(second(&["check"], second::split(P).0), "answer=0\nline=0\n");
     assert_eq!(second(&["check"], P), "answer=2\nline=11\n");
     assert_eq!(second(&["check"], ""), "answer=2\nline=1\n");
@@ -67,23 +69,40 @@ fn long_inputs() {
 #[test]
 fn many_texts() {
     let long = vec![0; LONG / 10];
-    let texts = file(&[P, b"", b"ret=int\n", &long, P]);
-    assert_eq!(second(&["many"], texts.clone()), "2 11\n2 1\n13 1\n1 0\n2 11\n");
-    let lines = "0 0 done 4 c320\n2 1 none 0 none\n13 1 none 0 none\n1 0 none 0 none\n\
-                 0 0 done 4 c320\n";
-    assert_eq!(second(&["manyrun"], texts.clone()), lines);
-    assert_eq!(second(&["audit"], texts), lines);
+    let texts = [P, b"", b"ret=int\n", &long, P];
+    let checks = file(&texts.map(|text| ("check", text)));
+    let runs = file(&texts.map(|text| ("run", text)));
+    let told = |answers: &[(u32, u32)]| -> String {
+        answers.iter().map(|(answer, line)| format!("answer={answer}\nline={line}\n")).collect()
+    };
+    let checked = told(&[(2, 11), (2, 1), (13, 1), (1, 0), (2, 11)]);
+    let ran = [DONE, &refused(2, 1), &refused(13, 1), &refused(1, 0), DONE].concat();
+    assert_eq!(second(&["many"], checks.clone()), checked);
+    assert_eq!(second(&["many"], runs.clone()), ran);
+    assert_eq!(second(&["audit"], runs.clone()), ran);
+    assert_eq!(second(&["many"], [checks, runs].concat()), checked + &ran);
     assert_eq!(second(&["many"], ""), "");
 }
 
 /// What was read rightly is answered; the rest is told, not answered.
 #[test]
 fn broken_files() {
-    let long = "9".repeat(30) + "\n";
-    for broken in ["x\nret=int\n", "7", "9\nret=int\n", "-1\n", "+8\nret=int\n", &long, "\n"] {
-        let texts = [file(&[P]), broken.into()].concat();
-        let output = output(&["manyrun"], texts);
-        assert_eq!(output.stdout, b"0 0 done 4 c320\n", "{broken}");
+    let long = "run ".to_owned() + &"9".repeat(30) + "\n";
+    let broken = [
+        "x\nret=int\n",
+        "run 7",
+        "run 9\nret=int\n",
+        "run -1\n",
+        "check +8\nret=int\n",
+        "8\nret=int\n",
+        "runs 8\nret=int\n",
+        &long,
+        "\n",
+    ];
+    for broken in broken {
+        let texts = [file(&[("run", P)]), broken.into()].concat();
+        let output = output(&["many"], texts);
+        assert_eq!(output.stdout, DONE.as_bytes(), "{broken}");
         assert!(!output.status.success() && !output.stderr.is_empty(), "{broken}");
     }
     for words in [&[][..], &["frob"], &["make", "1"], &["make", "x", "1"], &["check", "1"]] {
@@ -99,15 +118,17 @@ fn made_texts_are_answered_alike() {
     let texts = output(&["make", "9", "500"], "").stdout;
     assert_eq!(texts, output(&["make", "9", "500"], "").stdout);
     let made: Vec<Vec<u8>> = (0..500).map(|at| second::make::text(9, at)).collect();
-    let made: Vec<&[u8]> = made.iter().map(Vec::as_slice).collect();
-    assert_eq!(texts, file(&made));
-    let lines = second(&["manyrun"], texts);
-    assert_eq!(lines.lines().count(), 500);
-    for (line, text) in lines.lines().zip(&made) {
-        let verdict = second::run(text).verdict;
-        assert!(line.starts_with(&format!("{} {} ", verdict.answer, verdict.line)));
+    let both =
+        |text: &'_ Vec<u8>| [("check", second::split(text).0.to_vec()), ("run", text.clone())];
+    let pairs: Vec<(&str, Vec<u8>)> = made.iter().flat_map(both).collect();
+    let pairs: Vec<(&str, &[u8])> = pairs.iter().map(|(word, text)| (*word, &text[..])).collect();
+    assert_eq!(texts, file(&pairs));
+    let told = second(&["many"], texts);
+    let answers: Vec<&str> = told.lines().filter(|line| line.starts_with("answer=")).collect();
+    assert_eq!(answers.len(), 1_000);
+    for (answer, (word, text)) in answers.iter().zip(pairs) {
+        let given =
+            if word == "check" { second::check(text).0 } else { second::run(text).verdict.answer };
+        assert_eq!(*answer, format!("answer={given}"));
     }
-    let glue = output(&["make", "9", "500", "glue"], "").stdout;
-    let parts: Vec<&[u8]> = made.iter().map(|text| second::split(text).0).collect();
-    assert_eq!(glue, file(&parts));
 }
