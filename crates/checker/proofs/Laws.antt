@@ -56,6 +56,10 @@ tables-pass : (s : List ℕ) → readNamed s .answer .number ≡ 0 → readNamed
 unfolding readNamed namedOf
 tables-pass s z = rw (eq-eqb (readNamed s .answer .number) 0 z)
 
+tables-refused : (s : List ℕ) → (readNamed s .answer .number ≡ 0 → ⊥) → readNamed s .tables ≡ zeros
+unfolding readNamed namedOf
+tables-refused s n = rw (ne-eqb (readNamed s .answer .number) 0 n)
+
 -- ---- the answer and the tables
 
 module _ (Z N R D L B : List ℕ) where
@@ -89,6 +93,9 @@ module _ (Z N R D L B : List ℕ) where
 module _ (s : List ℕ) (a : Answer) (Z N R D L B : List ℕ) (h : Holds (readNamed s) a Z N R D L B) where
   pub by-names : (a .number ≡ 0 → ⊥) → checked s .verdict ≡ a
   by-names n = grouped s ∙ ap (λ (x : Answer). andThen x (later (readText s))) (sym (h .answer)) ∙ stops a (later (readText s)) n
+
+  pub as-cleared : (a .number ≡ 0 → ⊥) → tablesOf Z N R D L B ≡ zeros
+  as-cleared n = held Z N R D L B (readNamed s) a h ∙ tables-refused s (subst (λ (x : Answer). x .number ≡ 0 → ⊥) (h .answer) n)
 
   module _ (z : a .number ≡ 0) where
     abbrev P : Prog

@@ -18,8 +18,8 @@ pub fn check(
     ensures { λ r. ⌜ Says (checked (now (s .entry))) r (now (size .exit)) (now (nodes .exit)) (now (rows .exit)) (now (vars .exit)) (now (labels .exit)) (now (lines .exit)) ⌝ }
 {
     let a = glue::read(s, size, nodes, rows, vars, labels, lines);
+    // what refuses a text or its names has cleared the tables
     if a.number != 0 {
-        program::clear(size, nodes, rows, vars, labels, lines);
         return answers::case_of(a);
     }
     let b = body::typed(size, rows, vars, labels, nodes, lines);
