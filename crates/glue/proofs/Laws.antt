@@ -1,13 +1,38 @@
 -- Reading to the names, way by way: what the tables hold where the text, or a name, is refused, and where neither is. Assumes nothing.
-use Rattle.rules.specs.Prelude.{ℕ, List, _≡_, refl, sym, ap, _∙_}
+use Rattle.rules.specs.Prelude.{ℕ, zero, suc, _+_, List, _≡_, refl, sym, ap, subst, _∙_, ltb, eqb, length}
 use Rattle.rules.specs.declared.Answer.{Answer}
-use Rattle.rules.specs.Text.Layout.{Tables, zeros}
-use Rattle.rules.specs.Text.{TextOut, readText}
+use Rattle.rules.specs.declared.Count.{Count}
+use Rattle.rules.specs.Limits.{limits}
+use Rattle.rules.specs.Text.Layout.{Tables, nothing, zeros}
+use Rattle.rules.specs.Text.{TextOut, Lined, lined, andLine, lineAt, linesFrom, mostLines, readText}
 use Rattle.rules.specs.View.{program}
 use Rattle.rules.specs.Names.{names}
+use Rattle.rules.specs.Laws.Tests.{by-when}
 use Rattle.program.specs.Lines.{tablesOf}
 use Rattle.reader.specs.Read.{Holds}
 use Rattle.glue.specs.Named.{namedOf, readNamed, refused, by-reading, by-names, by-neither}
+
+-- ---- a text that is refused leaves nothing
+
+abbrev Clear : TextOut → Type 0
+Clear o = (o .answer .number ≡ 0 → ⊥) → o .tables ≡ zeros
+
+line-clear : (rest : ℕ → Count → Tables → TextOut) (line : ℕ) (x : Lined) → ((n : ℕ) (c : Count) (t : Tables) → Clear (rest n c t)) → Clear (andLine rest line x)
+line-clear rest line (lined a n c t) f = by-when Clear (eqb a 0) _ _ (λ z. f n c t) (λ z h. refl)
+
+lines-clear : (s : List ℕ) (left line at : ℕ) (c : Count) (t : Tables) → Clear (linesFrom s left line at c t)
+unfolding linesFrom
+lines-clear s zero line at c t = λ h. refl
+lines-clear s (suc left) line at c t =
+    by-when Clear (ltb at (length s)) _ _
+    (λ z. line-clear (linesFrom s left (line + 1)) line (lineAt s at c t) (lines-clear s left (line + 1)))
+    (λ z. by-when Clear (eqb (c .part) 0) _ _ (λ y h. refl) (λ y h. absurd (h refl)))
+
+text-clear : (s : List ℕ) → Clear (readText s)
+unfolding readText
+text-clear s = by-when Clear (ltb (limits .bytes) (length s)) _ _ (λ z h. refl) (λ z. lines-clear s (mostLines + 1) 1 0 nothing zeros)
+
+-- ---- the ways
 
 module _ (Z N R D L B : List ℕ) where
   -- six tables as one
@@ -33,6 +58,9 @@ module _ (Z N R D L B : List ℕ) where
 module _ (s : List ℕ) (a : Answer) (Z N R D L B : List ℕ) (h : Holds (readText s) a Z N R D L B) where
   pub text-refused : (a .number ≡ 0 → ⊥) → namedOf (readText s) ≡ refused a
   text-refused n = by-reading (readText s) a (h .answer) n
+
+  pub as-cleared : (a .number ≡ 0 → ⊥) → tablesOf Z N R D L B ≡ zeros
+  as-cleared n = held Z N R D L B (readText s) a h ∙ text-clear s (subst (λ (x : Answer). x .number ≡ 0 → ⊥) (h .answer) n)
 
   module _ (z : a .number ≡ 0) (b : Answer) (e : b ≡ names (program (tablesOf Z N R D L B))) where
     named-as-read : b ≡ names (program (readText s .tables))

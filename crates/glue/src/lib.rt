@@ -16,8 +16,8 @@ pub fn read(
     ensures { λ r. ⌜ Holds (readNamed (now (s .entry))) r (now (size .exit)) (now (nodes .exit)) (now (rows .exit)) (now (vars .exit)) (now (labels .exit)) (now (body .exit)) ⌝ }
 {
     let a = reader::read(s, size, nodes, rows, vars, labels, body);
+    // what refuses the text has cleared the tables
     if a.number != 0 {
-        program::clear(size, nodes, rows, vars, labels, body);
         return a;
     }
     let b = names::named(size, nodes, rows, vars, labels, body);
