@@ -6,10 +6,11 @@ use Prim.Native.Nat.{ℕ, suc, _+_, _-_, _<_, _≤_}
 use native.Mathlib.Omega.{arith as lin}
 use native.Mathlib.Numerals.{add-one}
 use lib.Dec.{eqb}
-use lib.ListN.{length, getD, drop, length-map, drop-of-length-le}
-use lib.Seq.{drop-cons}
+use lib.ListN.{length, getD, drop, length-map, length-set, drop-of-length-le}
+use lib.Seq.{drop-cons, set-out}
 use borrow.Author.Tests.{ne-eqb}
 use Rattle.rules.specs.declared.Env.{Env}
+use Rattle.rules.specs.declared.Entry.{Entry}
 use Rattle.rules.specs.declared.Judged.{Judged}
 use Rattle.rules.specs.declared.Line.{Line}
 use Rattle.rules.specs.declared.Answer.{Answer}
@@ -17,10 +18,11 @@ use Rattle.rules.specs.When.{when}
 use Rattle.rules.specs.Answers.{answer, accepted, passes, first}
 use Rattle.rules.specs.Numbers.{numCode}
 use Rattle.rules.specs.Text.Layout.{Tables}
-use Rattle.rules.specs.Program.{Stmt, badS}
-use Rattle.rules.specs.View.{treeOf, treeAt, Way, noW, setW, putW, gotoW, ifW, ifimmW, iftagW, ifintW, returnW, labelW, wayOf, stmtOf, stmtFrom, kindCode, rowsFrom, varsFrom, labelsFrom, bodyFrom, program}
+use Rattle.rules.specs.Laws.Lists.{tab-length}
+use Rattle.rules.specs.Program.{Stmt, badS, Var}
+use Rattle.rules.specs.View.{treeOf, treeAt, Way, noW, setW, putW, gotoW, ifW, ifimmW, iftagW, ifintW, returnW, labelW, wayOf, stmtOf, stmtFrom, labelFrom, kindCode, rowsFrom, varsFrom, labelsFrom, bodyFrom, program}
 use Rattle.rules.specs.Typing.{tyVar, type}
-use Rattle.rules.specs.Environments.{coversEnv, covers, startEnv}
+use Rattle.rules.specs.Environments.{coversEnv, covers, withEntry, startAt, startEnv}
 use Rattle.rules.specs.Body.{refuse, ruleSet, rulePut, ruleGoto, ruleIf, ruleIfimm, ruleIftag, ruleIfint, ruleReturn, reached, lineOf, localLine, lastOf, isEnd}
 use Rattle.program.specs.declared.Stored.{Stored}
 use Rattle.program.specs.Lines.{storedAt}
@@ -28,7 +30,9 @@ use Rattle.program.specs.Labels.{envFrom}
 use Rattle.program.specs.Nodes.{afterOf}
 use Rattle.program.proofs.Laws.{env-in, line-view, line-in, line-drop}
 use Rattle.program.proofs.Walk.{NoneTo, way-rest, with-one, with-two}
-use Rattle.body.specs.Lines.{lent, labelLine, lineIn, lineAt, numbersIn, localsIn, linesIn, typesIn}
+use Rattle.body.specs.declared.Then.{Then}
+use Rattle.body.specs.declared.Then.the-variants.{Stays, Takes, Label}
+use Rattle.body.specs.Lines.{lent, left, labelLine, lineIn, lineAt, numbersIn, localsIn, linesIn, typesIn}
 
 -- ---- labels
 
@@ -36,6 +40,23 @@ use Rattle.body.specs.Lines.{lent, labelLine, lineIn, lineAt, numbersIn,
 pub env-covers : (Z L : List ℕ) (l n : ℕ) (Γ : Env) → l < length (labelsFrom Z L) → coversEnv (envFrom L l n) Γ ≡ covers (labelsFrom Z L) l Γ
 unfolding covers coversEnv
 env-covers Z L l n Γ h = ap (λ (Δ : Env). coversEnv Δ Γ) (env-in Z L l n h)
+
+-- ---- what a line leaves has at most 32 entries, as what it began with
+
+pub start-long : (D : List Var) → length (startEnv D .entries) ≤ 32
+unfolding startEnv
+start-long D = rw (tab-length 32 (startAt D)) (omega lin)
+
+pub left-long : (L : List ℕ) (m : ℕ) (Γ : Env) (x : Then) → length (Γ .entries) ≤ 32 → length (left L m Γ x .entries) ≤ 32
+unfolding withEntry envFrom labelFrom
+left-long L m Γ Stays h = h
+left-long L m Γ (Takes v e) h = simp length-set h
+left-long L m Γ (Label l) h = rw (tab-length 32 _) (omega lin)
+
+-- a variable past them takes no entry
+pub left-past : (L : List ℕ) (m : ℕ) (Γ : Env) (v : ℕ) (e : Entry) → length (Γ .entries) ≤ 32 → 32 ≤ v → Γ ≡ left L m Γ (Takes v e)
+unfolding withEntry
+left-past L m Γ v e h past = rw (set-out (Γ .entries) v e (omega lin))
 
 -- ---- the line by its kind
 

@@ -10,12 +10,25 @@ use Rattle.rules.specs.Answers.{first}
 use Rattle.rules.specs.Text.Layout.{Tables}
 use Rattle.rules.specs.Program.{Stmt, badS, setS, putS, gotoS, ifS, ifimmS, iftagS, ifintS, returnS, labelS}
 use Rattle.rules.specs.View.{rowsFrom, varsFrom, bodyFrom, stmtFrom, program}
-use Rattle.rules.specs.Environments.{coversEnv, startEnv}
+use Rattle.rules.specs.Environments.{coversEnv, withEntry, startEnv}
 use Rattle.rules.specs.Body.{goes, refuse, lineOf, localLine, onward}
 use Rattle.program.specs.Labels.{envFrom}
+use Rattle.body.specs.declared.Then.{Then}
+use Rattle.body.specs.declared.Then.the-variants.{Stays, Takes, Label}
+use Rattle.body.specs.declared.Deed.{Deed}
 
 abbrev pub lent : List ℕ → List ℕ → List ℕ → List ℕ → List ℕ → List ℕ → Tables
 lent Z R D L N B = record { size = Z; nodes = N; rows = R; vars = D; labels = L; body = B }
+
+-- the environment after a line that began with Γ, where the labels stand in L and there are m variables
+abbrev pub left : List ℕ → ℕ → Env → Then → Env
+left L m Γ Stays = Γ
+left L m Γ (Takes v e) = withEntry Γ v e
+left L m Γ (Label l) = envFrom L l m
+
+-- what a line that does x is, of one that began with Γ
+abbrev pub lineBy : List ℕ → ℕ → Env → Deed → Line
+lineBy L m Γ x = record { answer = x .answer; live = x .live; env = left L m Γ (x .then) }
 
 -- what falls into a label with the environment Δ is covered (11); after it Δ holds
 unfoldable pub labelLine : Env → Bool → Env → Line

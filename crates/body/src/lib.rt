@@ -6,7 +6,7 @@ ghost use Prim.Native.Nat.{ℕ};
 ghost use lib.Dec.{ltb};
 ghost use lib.ListN.{length, getD};
 ghost use Rattle.rules.specs.Numbers.{among};
-ghost use Rattle.rules.specs.Answers.{accepted};
+ghost use Rattle.rules.specs.Answers.{accepted, answer};
 ghost use Rattle.rules.specs.Program.{prodsOf, sameKind};
 ghost use Rattle.rules.specs.View.{rowsFrom, varsFrom, labelsFrom, kindCode, treeOf, treeAt, stmtFrom, program};
 ghost use Rattle.rules.specs.Typing.{tyVar, type};
@@ -14,7 +14,8 @@ ghost use Rattle.rules.specs.Environments.{noVar, withEntry, withTag, localEntr
 ghost use Rattle.rules.specs.Body.{goes, refuse, jump, isBox, isImm, putAt, ruleSet, rulePut, ruleGoto, ruleIf, ruleIfimm, ruleIftag, ruleIfint, ruleReturn, reached, localLine, isEnd, ends};
 ghost use Rattle.program.specs.Labels.{envFrom};
 ghost use Rattle.program.specs.Nodes.{afterOf};
-ghost use Rattle.body.specs.Lines.{lent, labelLine, lineAt, localsIn, linesIn, typesIn};
+ghost use Rattle.rules.specs.declared.Env.{Env};
+ghost use Rattle.body.specs.Lines.{lent, left, lineBy, labelLine, lineAt, localsIn, linesIn, typesIn};
 use number::Index;
 use rules::Addr;
 use rules::Answer;
@@ -31,23 +32,38 @@ use rules::Tag;
 
 // ---- what a line gives, and the tests of lines
 
-fn went(live: bool, env: Env) -> Line
-    ensures { λ r. ⌜ r ≡ goes live env ⌝ }
+// What becomes of the environment: it stays, variable v takes an entry, or label l's own environment holds.
+enum Then {
+    Stays,
+    Takes(usize, Entry),
+    Label(usize),
+}
+
+// What a line does: its answer (0 goes on), whether the next line is reached, and what becomes of the environment.
+// A line says so little, and not its environment, since an environment is long and each function that hands one on copies it.
+struct Deed {
+    answer: u32,
+    live: bool,
+    then: Then,
+}
+
+fn went(live: bool, then: Then) -> Deed
+    ensures { λ r. ⌜ ((L : List ℕ) (m : ℕ) (Γ : Env) → lineBy L m Γ r ≡ goes live (left L m Γ then)) ⌝ }
 {
-    Line {
+    Deed {
         answer: 0,
         live: live,
-        env: env,
+        then: then,
     }
 }
 
-fn refused(n: u32, env: Env) -> Line
-    ensures { λ r. ⌜ r ≡ refuse n env ⌝ }
+fn refused(n: u32) -> Deed
+    ensures { λ r. ⌜ ((L : List ℕ) (m : ℕ) (Γ : Env) → lineBy L m Γ r ≡ refuse n Γ) ⌝ }
 {
-    Line {
+    Deed {
         answer: n,
         live: false,
-        env: env,
+        then: Then::Stays,
     }
 }
 
@@ -109,13 +125,13 @@ fn lands(size: &[u32; 6], labels: &[u64; 6208], l: usize, env: Env) -> bool
 }
 
 // A jump with the environment `there`; then on.
-fn jump_to(size: &[u32; 6], labels: &[u64; 6208], l: usize, there: Env, env: Env, on: Line) -> Line
-    ensures { λ r. ⌜ r ≡ jump (labelsFrom (now (size .entry)) (now (labels .entry))) l there env on ⌝ }
+fn jump_to(size: &[u32; 6], labels: &[u64; 6208], l: usize, there: Env, on: Deed) -> Deed
+    ensures { λ r. ⌜ ((L : List ℕ) (m : ℕ) (Γ : Env) → lineBy L m Γ r ≡ jump (labelsFrom (now (size .entry)) (now (labels .entry))) l there Γ (lineBy L m Γ on)) ⌝ }
 {
     if lands(size, labels, l, there) {
         on
     } else {
-        refused(11, env)
+        refused(11)
     }
 }
 
@@ -136,71 +152,54 @@ fn judged(
 
 // ---- the statements
 
-fn rule_set(
-    size: &[u32; 6],
-    rows: &[u32; 17536],
-    vars: &[u32; 96],
-    nodes: &[u64; 4096],
-    env: Env,
-    v: usize,
-    k: usize,
-) -> Line
-    ensures { λ r. ⌜ r ≡ ruleSet (varsFrom (now (size .entry)) (now (vars .entry))) v (type (rowsFrom (now (size .entry)) (now (rows .entry))) (varsFrom (now (size .entry)) (now (vars .entry))) env (treeOf (treeAt (now (nodes .entry)) 16 k))) env ⌝ }
+fn rule_set(size: &[u32; 6], vars: &[u32; 96], v: usize, x: Judged) -> Deed
+    ensures { λ r. ⌜ ((L : List ℕ) (m : ℕ) (Γ : Env) → lineBy L m Γ r ≡ ruleSet (varsFrom (now (size .entry)) (now (vars .entry))) v x Γ) ⌝ }
 {
-    match judged(size, rows, vars, nodes, env, k) {
-        Judged::No(n) => refused(n, env),
+    match x {
+        Judged::No(n) => refused(n),
         Judged::Ok(q, e) => {
             if same_kind(q, program::kind_of(size, vars, v)) {
-                let after = entry::with_entry(env, v, e);
-                went(true, after)
+                went(true, Then::Takes(v, e))
             } else {
-                refused(6, env)
+                refused(6)
             }
         }
     }
 }
 
 // E, of kind l and entry d, is stored in the addressed field of row r.
-fn put_at(
-    size: &[u32; 6],
-    rows: &[u32; 17536],
-    r: usize,
-    l: Kind,
-    d: Entry,
-    a: Addr,
-    env: Env,
-) -> Line
-    ensures { λ x. ⌜ x ≡ putAt (rowsFrom (now (size .entry)) (now (rows .entry))) r l d a env ⌝ }
+fn put_at(size: &[u32; 6], rows: &[u32; 17536], r: usize, l: Kind, d: Entry, a: Addr) -> Deed
+    ensures { λ x. ⌜ ((L : List ℕ) (m : ℕ) (Γ : Env) → lineBy L m Γ x ≡ putAt (rowsFrom (now (size .entry)) (now (rows .entry))) r l d a Γ) ⌝ }
 {
     let i = d.offset;
     match a {
-        Addr::Bad(n) => refused(n, env),
+        Addr::Bad(n) => refused(n),
         Addr::At(t, o) => {
             if same_kind(l, Kind::Value(program::field_of(size, rows, r, t, o))) {
                 if entry::zero_offset(i) {
-                    went(true, env)
+                    went(true, Then::Stays)
                 } else {
-                    refused(10, env)
+                    refused(10)
                 }
             } else {
-                refused(6, env)
+                refused(6)
             }
         }
     }
 }
 
-fn put_judged(size: &[u32; 6], rows: &[u32; 17536], env: Env, m: Num, x: Judged, y: Judged) -> Line
-    ensures { λ r. ⌜ r ≡ rulePut (rowsFrom (now (size .entry)) (now (rows .entry))) m x y env ⌝ }
+fn put_judged(size: &[u32; 6], rows: &[u32; 17536], n: Num, x: Judged, y: Judged) -> Deed
+    ensures { λ r. ⌜ ((L : List ℕ) (m : ℕ) (Γ : Env) → lineBy L m Γ r ≡ rulePut (rowsFrom (now (size .entry)) (now (rows .entry))) n x y Γ) ⌝ }
 {
     match x {
-        Judged::No(n) => refused(n, env),
+        Judged::No(a) => refused(a),
         Judged::Ok(k, e) => match y {
-            Judged::No(n) => refused(n, env),
+            Judged::No(a) => refused(a),
             Judged::Ok(l, d) => match k {
-                Kind::Cint => refused(6, env),
+                Kind::Cint => refused(6),
                 Kind::Value(r) => {
-                    let a = typing::address_of(size, rows, r, e, Tag::Known(m));
-                    put_at(size, rows, r, l, d, a, env)
+                    let a = typing::address_of(size, rows, r, e, Tag::Known(n));
+                    put_at(size, rows, r, l, d, a)
                 }
             },
         },
@@ -214,41 +213,32 @@ fn rule_put(
     vars: &[u32; 96],
     nodes: &[u64; 4096],
     env: Env,
-    m: Num,
+    n: Num,
     k: usize,
-) -> Line
-    ensures { λ r. ⌜ r ≡ rulePut (rowsFrom (now (size .entry)) (now (rows .entry))) m (type (rowsFrom (now (size .entry)) (now (rows .entry))) (varsFrom (now (size .entry)) (now (vars .entry))) env (treeOf (treeAt (now (nodes .entry)) 16 k))) (type (rowsFrom (now (size .entry)) (now (rows .entry))) (varsFrom (now (size .entry)) (now (vars .entry))) env (treeOf (treeAt (now (nodes .entry)) 16 (afterOf (treeAt (now (nodes .entry)) 16 k))))) env ⌝ }
+) -> Deed
+    ensures { λ r. ⌜ ((L : List ℕ) (m : ℕ) (Γ : Env) → lineBy L m Γ r ≡ rulePut (rowsFrom (now (size .entry)) (now (rows .entry))) n (type (rowsFrom (now (size .entry)) (now (rows .entry))) (varsFrom (now (size .entry)) (now (vars .entry))) env (treeOf (treeAt (now (nodes .entry)) 16 k))) (type (rowsFrom (now (size .entry)) (now (rows .entry))) (varsFrom (now (size .entry)) (now (vars .entry))) env (treeOf (treeAt (now (nodes .entry)) 16 (afterOf (treeAt (now (nodes .entry)) 16 k))))) Γ) ⌝ }
 {
     let f = typing::judge_at(size, rows, vars, nodes, env, Limits::DEPTH, k);
     let x = f.judged;
     let next = f.next;
     let y = judged(size, rows, vars, nodes, env, next);
-    put_judged(size, rows, env, m, x, y)
+    put_judged(size, rows, n, x, y)
 }
 
-fn rule_goto(size: &[u32; 6], labels: &[u64; 6208], env: Env, l: usize) -> Line
-    ensures { λ r. ⌜ r ≡ ruleGoto (labelsFrom (now (size .entry)) (now (labels .entry))) l env ⌝ }
+fn rule_goto(size: &[u32; 6], labels: &[u64; 6208], env: Env, l: usize) -> Deed
+    ensures { λ r. ⌜ ((L : List ℕ) (m : ℕ) → lineBy L m env r ≡ ruleGoto (labelsFrom (now (size .entry)) (now (labels .entry))) l env) ⌝ }
 {
-    jump_to(size, labels, l, env, env, went(false, env))
+    jump_to(size, labels, l, env, went(false, Then::Stays))
 }
 
-fn rule_if(
-    size: &[u32; 6],
-    rows: &[u32; 17536],
-    vars: &[u32; 96],
-    labels: &[u64; 6208],
-    nodes: &[u64; 4096],
-    env: Env,
-    l: usize,
-    k: usize,
-) -> Line
-    ensures { λ r. ⌜ r ≡ ruleIf (labelsFrom (now (size .entry)) (now (labels .entry))) l (type (rowsFrom (now (size .entry)) (now (rows .entry))) (varsFrom (now (size .entry)) (now (vars .entry))) env (treeOf (treeAt (now (nodes .entry)) 16 k))) env ⌝ }
+fn rule_if(size: &[u32; 6], labels: &[u64; 6208], env: Env, l: usize, x: Judged) -> Deed
+    ensures { λ r. ⌜ ((L : List ℕ) (m : ℕ) → lineBy L m env r ≡ ruleIf (labelsFrom (now (size .entry)) (now (labels .entry))) l x env) ⌝ }
 {
-    match judged(size, rows, vars, nodes, env, k) {
-        Judged::No(n) => refused(n, env),
+    match x {
+        Judged::No(n) => refused(n),
         Judged::Ok(q, _) => match q {
-            Kind::Value(_) => refused(6, env),
-            Kind::Cint => jump_to(size, labels, l, env, env, went(true, env)),
+            Kind::Value(_) => refused(6),
+            Kind::Cint => jump_to(size, labels, l, env, went(true, Then::Stays)),
         },
     }
 }
@@ -261,21 +251,21 @@ fn rule_ifimm(
     env: Env,
     l: usize,
     v: usize,
-) -> Line
-    ensures { λ r. ⌜ r ≡ ruleIfimm (labelsFrom (now (size .entry)) (now (labels .entry))) l v (tyVar (varsFrom (now (size .entry)) (now (vars .entry))) env v) env ⌝ }
+) -> Deed
+    ensures { λ r. ⌜ ((L : List ℕ) (m : ℕ) → lineBy L m env r ≡ ruleIfimm (labelsFrom (now (size .entry)) (now (labels .entry))) l v (tyVar (varsFrom (now (size .entry)) (now (vars .entry))) env v) env) ⌝ }
 {
     match typing::var_judged(size, vars, env, v) {
-        Judged::No(n) => refused(n, env),
+        Judged::No(n) => refused(n),
         Judged::Ok(k, e) => match k {
-            Kind::Cint => refused(6, env),
+            Kind::Cint => refused(6),
             Kind::Value(_) => {
                 let i = e.offset;
                 if entry::zero_offset(i) {
                     let there = entry::with_entry(env, v, entry::with_boxed(e, Boxed::Imm));
-                    let here = entry::with_entry(env, v, entry::with_boxed(e, Boxed::Block));
-                    jump_to(size, labels, l, there, env, went(true, here))
+                    let here = Then::Takes(v, entry::with_boxed(e, Boxed::Block));
+                    jump_to(size, labels, l, there, went(true, here))
                 } else {
-                    refused(10, env)
+                    refused(10)
                 }
             }
         },
@@ -291,11 +281,12 @@ fn tag_jump(
     v: usize,
     n: Num,
     e: Entry,
-) -> Line
-    ensures { λ x. ⌜ x ≡ jump (labelsFrom (now (size .entry)) (now (labels .entry))) l (withEntry env v (withTag e n)) env (goes true env) ⌝ }
+) -> Deed
+    ensures { λ x. ⌜ ((L : List ℕ) (m : ℕ) → lineBy L m env x ≡ jump (labelsFrom (now (size .entry)) (now (labels .entry))) l (withEntry env v (withTag e n)) env (goes true env)) ⌝ }
 {
-    let there = entry::with_entry(env, v, entry::with_tag(e, n));
-    jump_to(size, labels, l, there, env, went(true, env))
+    let known = entry::with_tag(e, n);
+    let there = entry::with_entry(env, v, known);
+    jump_to(size, labels, l, there, went(true, Then::Stays))
 }
 
 // The tests of `iftag` on a value of row r, in their order.
@@ -309,8 +300,8 @@ fn tag_test(
     n: Num,
     r: usize,
     e: Entry,
-) -> Line
-    ensures { λ x. ⌜ x ≡ ruleIftag (rowsFrom (now (size .entry)) (now (rows .entry))) (labelsFrom (now (size .entry)) (now (labels .entry))) l v n (Judged.Ok (Kind.Value r) e) env ⌝ }
+) -> Deed
+    ensures { λ x. ⌜ ((L : List ℕ) (m : ℕ) → lineBy L m env x ≡ ruleIftag (rowsFrom (now (size .entry)) (now (rows .entry))) (labelsFrom (now (size .entry)) (now (labels .entry))) l v n (Judged.Ok (Kind.Value r) e) env) ⌝ }
 {
     let i = e.offset;
     let b = e.boxed;
@@ -319,11 +310,11 @@ fn tag_test(
             if has_tag(size, rows, r, n) {
                 return tag_jump(size, labels, env, l, v, n, e);
             }
-            return refused(8, env);
+            return refused(8);
         }
-        return refused(7, env);
+        return refused(7);
     }
-    refused(10, env)
+    refused(10)
 }
 
 fn rule_iftag(
@@ -335,13 +326,13 @@ fn rule_iftag(
     l: usize,
     v: usize,
     n: Num,
-) -> Line
-    ensures { λ x. ⌜ x ≡ ruleIftag (rowsFrom (now (size .entry)) (now (rows .entry))) (labelsFrom (now (size .entry)) (now (labels .entry))) l v n (tyVar (varsFrom (now (size .entry)) (now (vars .entry))) env v) env ⌝ }
+) -> Deed
+    ensures { λ x. ⌜ ((L : List ℕ) (m : ℕ) → lineBy L m env x ≡ ruleIftag (rowsFrom (now (size .entry)) (now (rows .entry))) (labelsFrom (now (size .entry)) (now (labels .entry))) l v n (tyVar (varsFrom (now (size .entry)) (now (vars .entry))) env v) env) ⌝ }
 {
     match typing::var_judged(size, vars, env, v) {
-        Judged::No(a) => refused(a, env),
+        Judged::No(a) => refused(a),
         Judged::Ok(k, e) => match k {
-            Kind::Cint => refused(6, env),
+            Kind::Cint => refused(6),
             Kind::Value(r) => tag_test(size, rows, labels, env, l, v, n, r, e),
         },
     }
@@ -358,8 +349,8 @@ fn int_test(
     n: Num,
     r: usize,
     e: Entry,
-) -> Line
-    ensures { λ x. ⌜ x ≡ ruleIfint (rowsFrom (now (size .entry)) (now (rows .entry))) (labelsFrom (now (size .entry)) (now (labels .entry))) l v n (Judged.Ok (Kind.Value r) e) env ⌝ }
+) -> Deed
+    ensures { λ x. ⌜ ((L : List ℕ) (m : ℕ) → lineBy L m env x ≡ ruleIfint (rowsFrom (now (size .entry)) (now (rows .entry))) (labelsFrom (now (size .entry)) (now (labels .entry))) l v n (Judged.Ok (Kind.Value r) e) env) ⌝ }
 {
     let i = e.offset;
     let b = e.boxed;
@@ -368,11 +359,11 @@ fn int_test(
             if number::suits(program::psi_of(size, rows, r), n) {
                 return tag_jump(size, labels, env, l, v, n, e);
             }
-            return refused(9, env);
+            return refused(9);
         }
-        return refused(7, env);
+        return refused(7);
     }
-    refused(10, env)
+    refused(10)
 }
 
 fn rule_ifint(
@@ -384,68 +375,121 @@ fn rule_ifint(
     l: usize,
     v: usize,
     n: Num,
-) -> Line
-    ensures { λ x. ⌜ x ≡ ruleIfint (rowsFrom (now (size .entry)) (now (rows .entry))) (labelsFrom (now (size .entry)) (now (labels .entry))) l v n (tyVar (varsFrom (now (size .entry)) (now (vars .entry))) env v) env ⌝ }
+) -> Deed
+    ensures { λ x. ⌜ ((L : List ℕ) (m : ℕ) → lineBy L m env x ≡ ruleIfint (rowsFrom (now (size .entry)) (now (rows .entry))) (labelsFrom (now (size .entry)) (now (labels .entry))) l v n (tyVar (varsFrom (now (size .entry)) (now (vars .entry))) env v) env) ⌝ }
 {
     match typing::var_judged(size, vars, env, v) {
-        Judged::No(a) => refused(a, env),
+        Judged::No(a) => refused(a),
         Judged::Ok(k, e) => match k {
-            Kind::Cint => refused(6, env),
+            Kind::Cint => refused(6),
             Kind::Value(r) => int_test(size, rows, labels, env, l, v, n, r, e),
         },
     }
 }
 
-fn rule_return(
-    size: &[u32; 6],
-    rows: &[u32; 17536],
-    vars: &[u32; 96],
-    nodes: &[u64; 4096],
-    env: Env,
-    k: usize,
-) -> Line
-    ensures { λ r. ⌜ r ≡ ruleReturn (kindCode (getD (now (size .entry)) 0 0)) (type (rowsFrom (now (size .entry)) (now (rows .entry))) (varsFrom (now (size .entry)) (now (vars .entry))) env (treeOf (treeAt (now (nodes .entry)) 16 k))) env ⌝ }
+fn rule_return(size: &[u32; 6], x: Judged) -> Deed
+    ensures { λ r. ⌜ ((L : List ℕ) (m : ℕ) (Γ : Env) → lineBy L m Γ r ≡ ruleReturn (kindCode (getD (now (size .entry)) 0 0)) x Γ) ⌝ }
 {
-    match judged(size, rows, vars, nodes, env, k) {
-        Judged::No(n) => refused(n, env),
+    match x {
+        Judged::No(n) => refused(n),
         Judged::Ok(q, e) => {
             let i = e.offset;
             if same_kind(q, program::ret_kind(size)) {
                 if entry::zero_offset(i) {
-                    went(false, env)
+                    went(false, Then::Stays)
                 } else {
-                    refused(10, env)
+                    refused(10)
                 }
             } else {
-                refused(6, env)
+                refused(6)
             }
         }
     }
 }
 
 // What falls in is covered by the label's own environment, which holds from there on.
-fn rule_label(size: &[u32; 6], labels: &[u64; 6208], live: bool, env: Env, l: usize) -> Line
-    ensures { λ r. ⌜ ((D : List ℕ) → r ≡ labelLine (envFrom (now (labels .entry)) l (length (varsFrom (now (size .entry)) D))) live env) ⌝ }
+fn rule_label(size: &[u32; 6], labels: &[u64; 6208], live: bool, env: Env, l: usize) -> Deed
+    ensures { λ r. ⌜ ((D : List ℕ) → lineBy (now (labels .entry)) (length (varsFrom (now (size .entry)) D)) env r ≡ labelLine (envFrom (now (labels .entry)) l (length (varsFrom (now (size .entry)) D))) live env) ⌝ }
 {
-    let own = program::label_env(size, labels, l);
     if live {
+        let own = program::label_env(size, labels, l);
         if entry::covers_env(own, env) {
-            went(true, own)
+            went(true, Then::Label(l))
         } else {
-            refused(11, env)
+            refused(11)
         }
     } else {
-        went(true, own)
+        went(true, Then::Label(l))
     }
 }
 
 // ---- the lines
 
 // A line after `goto` or `return` that is no label is 12.
-fn gated(live: bool, env: Env, x: Line) -> Line
-    ensures { λ r. ⌜ r ≡ reached live env x ⌝ }
+fn gated(live: bool, x: Deed) -> Deed
+    ensures { λ r. ⌜ ((L : List ℕ) (m : ℕ) (Γ : Env) → lineBy L m Γ r ≡ reached live Γ (lineBy L m Γ x)) ⌝ }
 {
-    if live { x } else { refused(12, env) }
+    if live { x } else { refused(12) }
+}
+
+// What body line i does, which is reached or not.
+fn deed_of(
+    size: &[u32; 6],
+    rows: &[u32; 17536],
+    vars: &[u32; 96],
+    labels: &[u64; 6208],
+    nodes: &[u64; 4096],
+    body: &[u32; 2560],
+    on: bool,
+    env: Env,
+    i: usize,
+) -> Deed
+    ensures { λ r. ⌜ lineBy (now (labels .entry)) (length (varsFrom (now (size .entry)) (now (vars .entry)))) env r ≡ lineAt (lent (now (size .entry)) (now (rows .entry)) (now (vars .entry)) (now (labels .entry)) (now (nodes .entry)) (now (body .entry))) on env i ⌝ }
+{
+    let s = program::line_at(body, i);
+    let kind = s.kind;
+    let l = s.label as usize;
+    let v = s.variable as usize;
+    let n = number::number(s.word);
+    let k = s.node as usize;
+    match kind {
+        1 => gated(
+            on,
+            rule_set(size, vars, v, judged(size, rows, vars, nodes, env, k)),
+        ),
+        2 => gated(on, rule_put(size, rows, vars, nodes, env, n, k)),
+        3 => gated(on, rule_goto(size, labels, env, l)),
+        4 => gated(
+            on,
+            rule_if(
+                size,
+                labels,
+                env,
+                l,
+                judged(size, rows, vars, nodes, env, k),
+            ),
+        ),
+        5 => gated(on, rule_ifimm(size, vars, labels, env, l, v)),
+        6 => gated(on, rule_iftag(size, rows, vars, labels, env, l, v, n)),
+        7 => gated(on, rule_ifint(size, rows, vars, labels, env, l, v, n)),
+        8 => gated(
+            on,
+            rule_return(size, judged(size, rows, vars, nodes, env, k)),
+        ),
+        9 => rule_label(size, labels, on, env, l),
+        _ => refused(4),
+    }
+}
+
+// The environment after a line.
+fn after(size: &[u32; 6], labels: &[u64; 6208], env: Env, then: Then) -> Env
+    ensures { λ e. ⌜ ((D : List ℕ) → e ≡ left (now (labels .entry)) (length (varsFrom (now (size .entry)) D)) env then) ⌝ }
+{
+    match then {
+        Then::Stays => env,
+        Then::Takes(v, e) => entry::with_entry(env, v, e),
+        Then::Label(l) => program::label_env(size, labels, l),
+    }
 }
 
 // Body line i, which is reached or not: what it does to the environment, or its answer.
@@ -462,23 +506,13 @@ pub fn line_judged(
 ) -> Line
     ensures { λ r. ⌜ r ≡ lineAt (lent (now (size .entry)) (now (rows .entry)) (now (vars .entry)) (now (labels .entry)) (now (nodes .entry)) (now (body .entry))) on env i ⌝ }
 {
-    let s = program::line_at(body, i);
-    let kind = s.kind;
-    let l = s.label as usize;
-    let v = s.variable as usize;
-    let n = number::number(s.word);
-    let k = s.node as usize;
-    match kind {
-        1 => gated(on, env, rule_set(size, rows, vars, nodes, env, v, k)),
-        2 => gated(on, env, rule_put(size, rows, vars, nodes, env, n, k)),
-        3 => gated(on, env, rule_goto(size, labels, env, l)),
-        4 => gated(on, env, rule_if(size, rows, vars, labels, nodes, env, l, k)),
-        5 => gated(on, env, rule_ifimm(size, vars, labels, env, l, v)),
-        6 => gated(on, env, rule_iftag(size, rows, vars, labels, env, l, v, n)),
-        7 => gated(on, env, rule_ifint(size, rows, vars, labels, env, l, v, n)),
-        8 => gated(on, env, rule_return(size, rows, vars, nodes, env, k)),
-        9 => rule_label(size, labels, on, env, l),
-        _ => refused(4, env),
+    let x = deed_of(size, rows, vars, labels, nodes, body, on, env, i);
+    let then = x.then;
+    let left = after(size, labels, env, then);
+    Line {
+        answer: x.answer,
+        live: x.live,
+        env: left,
     }
 }
 
@@ -488,6 +522,15 @@ fn accepted() -> Answer
     ensures { λ r. ⌜ r ≡ accepted ⌝ }
 {
     Answer { number: 0, line: 0 }
+}
+
+fn answered(n: u32, line: usize) -> Answer
+    ensures { λ r. ⌜ r ≡ answer n line ⌝ }
+{
+    Answer {
+        number: n,
+        line: line,
+    }
 }
 
 // The number for the line of variable v: of a value local N suits (9).
@@ -523,10 +566,7 @@ fn locals_typed(size: &[u32; 6], rows: &[u32; 17536], vars: &[u32; 96]) -> Answe
         if a == 0 {
             v += 1;
         } else {
-            return Answer {
-                number: a,
-                line: from + v,
-            };
+            return answered(a, from + v);
         }
     }
     accepted()
@@ -596,19 +636,25 @@ fn lines_typed(
     let mut env = start_env(size, vars);
     let mut i = 0;
     while i < n {
-        let x = line_judged(size, rows, vars, labels, nodes, body, live, env, i);
+        let x = deed_of(size, rows, vars, labels, nodes, body, live, env, i);
         let a = x.answer;
-        if a == 0 {
-            live = x.live;
-            let e = x.env;
-            env = e;
-            i += 1;
-        } else {
-            return Answer {
-                number: a,
-                line: from + i,
-            };
+        if a != 0 {
+            return answered(a, from + i);
         }
+        live = x.live;
+        let then = x.then;
+        match then {
+            Then::Stays => {}
+            Then::Takes(v, e) => {
+                if v < 32 {
+                    env.entries[v] = e;
+                }
+            }
+            Then::Label(l) => {
+                env = program::label_env(size, labels, l);
+            }
+        }
+        i += 1;
     }
     accepted()
 }

@@ -8,5 +8,5 @@ gated-spec =
     tie.close
     (tie.spec
     (λ c κs. search needs)  -- refused-requires
-    (λ c. rw (c .if1 .taken) refl)  -- returns
-    (λ c. rw (c .before .if1 .left) (c .refused .ensures)))  -- returns-2
+    (λ c. λ L m Γ. rw (c .if1 .taken) refl)  -- returns
+    (λ c. λ L m Γ. rw (c .before .if1 .left) (c .refused .ensures L m Γ)))  -- returns-2

@@ -9,5 +9,5 @@ jump-to-spec =
     (tie.spec
     (λ c κs. search needs)  -- lands-requires
     (λ c κs. search needs)  -- refused-requires
-    (λ c. rw (sym (c .before .lands .ensures) ∙ c .if1 .taken) refl)  -- returns
-    (λ c. rw (sym (c .before .before .lands .ensures) ∙ c .before .if1 .left) (c .refused .ensures)))  -- returns-2
+    (λ c. λ L m Γ. rw (sym (c .before .lands .ensures) ∙ c .if1 .taken) refl)  -- returns
+    (λ c. λ L m Γ. rw (sym (c .before .before .lands .ensures) ∙ c .before .if1 .left) (c .refused .ensures L m Γ)))  -- returns-2

@@ -36,6 +36,7 @@ locals-typed-spec =
     (λ c. omega arith)  -- loop-less
     (λ c. let a = c .before .before .before .before .before .before .args in let h = rw (c .before .before .before .before .var-count .ensures (a .vars .now)) at (c .before .before .loop-test .taken) in (omega arith, sym (left-on (localLine (rowsFrom (a .size .now) (a .rows .now))) (varsFrom (a .size .now) (a .vars .now)) noVar _ _ _ h (c .before .local-line .ensures) (c .if1 .taken)) ∙ c .before .before .before .loop .inv .1))  -- loop-again
     (λ c. omega (arith, c .before .before .before .before .before .row-count .ensures [], rows-small (c .before .before .before .before .before .before .args .size .now) [], c .before .before .before .before .var-count .ensures [], vars-small (c .before .before .before .before .before .before .args .size .now) []))  -- add-t10
-    (λ c. let a = c .before .before .before .before .before .before .args in let h = rw (c .before .before .before .before .var-count .ensures (a .vars .now)) at (c .before .before .loop-test .taken) in λ L N B. sym (left-no (localLine (rowsFrom (a .size .now) (a .rows .now))) (varsFrom (a .size .now) (a .vars .now)) noVar _ _ _ h (c .before .local-line .ensures) (c .if1 .left)) ∙ c .before .before .before .loop .inv .1)  -- returns
+    (λ c κs. search needs)  -- answered-requires
+    (λ c. let a = c .before .before .before .before .before .before .before .args in let h = rw (c .before .before .before .before .before .var-count .ensures (a .vars .now)) at (c .before .before .before .loop-test .taken) in λ L N B. c .answered .ensures ∙ sym (left-no (localLine (rowsFrom (a .size .now) (a .rows .now))) (varsFrom (a .size .now) (a .vars .now)) noVar _ _ _ h (c .before .before .local-line .ensures) (c .before .if1 .left)) ∙ c .before .before .before .before .loop .inv .1)  -- returns
     (λ c κs. search needs)  -- accepted-requires
     (λ c. let a = c .before .before .before .before .before .args in let h = rw (c .before .before .before .var-count .ensures (a .vars .now)) at (c .before .loop-test .left) in λ L N B. c .accepted .ensures ∙ sym (left-end (localLine (rowsFrom (a .size .now) (a .rows .now))) (varsFrom (a .size .now) (a .vars .now)) noVar _ _ h) ∙ c .before .before .loop .inv .1))  -- returns-2

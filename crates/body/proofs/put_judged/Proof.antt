@@ -20,7 +20,7 @@ put-judged-spec =
     (λ c. search needs)  -- enum-known-k
     (λ c κs. search needs)  -- address-of-requires
     (λ c κs. search needs)  -- put-at-requires
-    (λ c. rw (c .before .before .x .given .1) (c .refused .ensures))  -- returns
-    (λ c. rw (c .before .before .before .before .before .x2 .given .1) (rw (c .before .before .y .given .1) (c .refused2 .ensures)))  -- returns-2
-    (λ c. rw (c .before .before .before .before .before .before .before .x2 .given .1) (rw (c .before .before .before .before .y2 .given .1) (rw (c .before .enum-told .given .1) (c .refused3 .ensures))))  -- returns-3
-    (λ c. rw (c .before .before .before .before .before .before .before .before .before .x2 .given .1) (rw (c .before .before .before .before .before .before .y2 .given .1) (rw (c .before .before .before .k .given .1) (rw (sym (c .before .address-of .ensures)) (c .put-at .ensures))))))  -- returns-4
+    (λ c. λ L m Γ. rw (c .before .before .x .given .1) (c .refused .ensures L m Γ))  -- returns
+    (λ c. λ L m Γ. rw (c .before .before .before .before .before .x2 .given .1) (rw (c .before .before .y .given .1) (c .refused2 .ensures L m Γ)))  -- returns-2
+    (λ c. λ L m Γ. rw (c .before .before .before .before .before .before .before .x2 .given .1) (rw (c .before .before .before .before .y2 .given .1) (rw (c .before .enum-told .given .1) (c .refused3 .ensures L m Γ))))  -- returns-3
+    (λ c. λ L m Γ. rw (c .before .before .before .before .before .before .before .before .before .x2 .given .1) (rw (c .before .before .before .before .before .before .y2 .given .1) (rw (c .before .before .before .k .given .1) (rw (sym (c .before .address-of .ensures)) (c .put-at .ensures L m Γ))))))  -- returns-4

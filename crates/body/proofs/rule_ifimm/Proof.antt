@@ -20,11 +20,10 @@ rule-ifimm-spec =
     (λ c κs. search needs)  -- with-boxed-requires
     (λ c κs. search needs)  -- with-entry-requires
     (λ c κs. search needs)  -- with-boxed-requires-2
-    (λ c κs. search needs)  -- with-entry-requires-2
     (λ c κs. search needs)  -- went-requires
     (λ c κs. search needs)  -- jump-to-requires
     (λ c κs. search needs)  -- refused-requires-3
-    (λ c. rw (sym (c .before .before .before .before .var-judged .ensures) ∙ c .before .before .n .given .1) (c .refused .ensures))  -- returns
-    (λ c. rw (sym (c .before .before .before .before .before .before .var-judged .ensures) ∙ c .before .before .before .before .k .given .1) (rw (c .before .enum-told .given .1) (c .refused2 .ensures)))  -- returns-2
-    (λ c. rw (sym (c .before .before .before .before .before .before .before .before .before .before .before .before .before .var-judged .ensures) ∙ c .before .before .before .before .before .before .before .before .before .before .before .k .given .1) (rw (c .before .before .before .before .before .before .before .before .enum-told2 .given .1) (rw (sym (c .before .before .before .before .before .before .before .zero-offset .ensures) ∙ c .before .before .before .before .before .before .if1 .taken) (rw (sym (c .before .before .before .before .before .with-boxed .ensures), sym (c .before .before .before .before .with-entry .ensures), sym (c .before .before .before .with-boxed2 .ensures), sym (c .before .before .with-entry2 .ensures), sym (c .before .went .ensures)) (c .jump-to .ensures)))))  -- returns-3
-    (λ c. rw (sym (c .before .before .before .before .before .before .before .before .var-judged .ensures) ∙ c .before .before .before .before .before .before .k .given .1) (rw (c .before .before .before .enum-told2 .given .1) (rw (sym (c .before .before .zero-offset .ensures) ∙ c .before .if1 .left) (c .refused3 .ensures)))))  -- returns-4
+    (λ c. λ L m. let Γ = c .before .before .before .before .before .args .env in rw (sym (c .before .before .before .before .var-judged .ensures) ∙ c .before .before .n .given .1) (c .refused .ensures L m Γ))  -- returns
+    (λ c. λ L m. let Γ = c .before .before .before .before .before .before .before .args .env in rw (sym (c .before .before .before .before .before .before .var-judged .ensures) ∙ c .before .before .before .before .k .given .1) (rw (c .before .enum-told .given .1) (c .refused2 .ensures L m Γ)))  -- returns-2
+    (λ c. λ L m. let Γ = c .before .before .before .before .before .before .before .before .before .before .before .before .before .args .env in rw (sym (c .before .before .before .before .before .before .before .before .before .before .before .before .var-judged .ensures) ∙ c .before .before .before .before .before .before .before .before .before .before .k .given .1) (rw (c .before .before .before .before .before .before .before .enum-told2 .given .1) (rw (sym (c .before .before .before .before .before .before .zero-offset .ensures) ∙ c .before .before .before .before .before .if1 .taken) (rw (sym (c .before .before .before .before .with-boxed .ensures), sym (c .before .before .before .with-entry .ensures), sym (c .before .before .with-boxed2 .ensures), sym (c .before .went .ensures L m Γ)) (c .jump-to .ensures L m Γ)))))  -- returns-3
+    (λ c. λ L m. let Γ = c .before .before .before .before .before .before .before .before .before .args .env in rw (sym (c .before .before .before .before .before .before .before .before .var-judged .ensures) ∙ c .before .before .before .before .before .before .k .given .1) (rw (c .before .before .before .enum-told2 .given .1) (rw (sym (c .before .before .zero-offset .ensures) ∙ c .before .if1 .left) (c .refused3 .ensures L m Γ)))))  -- returns-4

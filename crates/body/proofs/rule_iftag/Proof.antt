@@ -17,6 +17,6 @@ rule-iftag-spec =
     (λ c κs. search needs)  -- refused-requires-2
     (λ c. search needs)  -- enum-known-k-2
     (λ c κs. search needs)  -- tag-test-requires
-    (λ c. rw (sym (c .before .before .before .before .var-judged .ensures) ∙ c .before .before .a .given .1) (c .refused .ensures))  -- returns
-    (λ c. rw (sym (c .before .before .before .before .before .before .var-judged .ensures) ∙ c .before .before .before .before .k .given .1) (rw (c .before .enum-told .given .1) (c .refused2 .ensures)))  -- returns-2
-    (λ c. rw (sym (c .before .before .before .before .before .before .before .var-judged .ensures) ∙ c .before .before .before .before .before .k .given .1) (rw (c .before .before .k2 .given .1) (c .tag-test .ensures))))  -- returns-3
+    (λ c. λ L m. let Γ = c .before .before .before .before .before .args .env in rw (sym (c .before .before .before .before .var-judged .ensures) ∙ c .before .before .a .given .1) (c .refused .ensures L m Γ))  -- returns
+    (λ c. λ L m. let Γ = c .before .before .before .before .before .before .before .args .env in rw (sym (c .before .before .before .before .before .before .var-judged .ensures) ∙ c .before .before .before .before .k .given .1) (rw (c .before .enum-told .given .1) (c .refused2 .ensures L m Γ)))  -- returns-2
+    (λ c. λ L m. rw (sym (c .before .before .before .before .before .before .before .var-judged .ensures) ∙ c .before .before .before .before .before .k .given .1) (rw (c .before .before .k2 .given .1) (c .tag-test .ensures L m))))  -- returns-3

@@ -14,6 +14,6 @@ rule-label-spec =
     (λ c κs. search needs)  -- went-requires
     (λ c κs. search needs)  -- refused-requires
     (λ c κs. search needs)  -- went-requires-2
-    (λ c. λ D. rw (sym (c .before .before .before .before .label-env .ensures D)) (rw (c .before .before .before .if1 .taken) (rw (sym (c .before .before .covers-env .ensures) ∙ c .before .if2 .taken) (c .went .ensures))))  -- returns
-    (λ c. λ D. rw (sym (c .before .before .before .before .label-env .ensures D)) (rw (c .before .before .before .if1 .taken) (rw (sym (c .before .before .covers-env .ensures) ∙ c .before .if2 .left) (c .refused .ensures))))  -- returns-2
-    (λ c. λ D. rw (sym (c .before .before .label-env .ensures D)) (rw (c .before .if1 .left) (c .went2 .ensures))))  -- returns-3
+    (λ c. λ D. rw (c .before .before .before .before .if1 .taken) (rw (sym (rw (c .before .before .before .label-env .ensures D) at (c .before .before .covers-env .ensures)) ∙ c .before .if2 .taken) (c .went .ensures _ _ (c .before .before .before .before .before .args .env))))  -- returns
+    (λ c. λ D. rw (c .before .before .before .before .if1 .taken) (rw (sym (rw (c .before .before .before .label-env .ensures D) at (c .before .before .covers-env .ensures)) ∙ c .before .if2 .left) (c .refused .ensures _ _ (c .before .before .before .before .before .args .env))))  -- returns-2
+    (λ c. λ D. rw (c .before .if1 .left) (c .went2 .ensures _ _ (c .before .before .args .env))))  -- returns-3

@@ -11,4 +11,4 @@ rule-put-spec =
     (λ c κs. search needs)  -- judge-at-requires
     (λ c κs. search needs)  -- judged-requires
     (λ c κs. search needs)  -- put-judged-requires
-    (λ c. rw (sym (tree-of _ _ _ _ _ _ _ (c .before .before .judge-at .ensures)), sym (after-of _ _ _ _ _ _ _ (c .before .before .judge-at .ensures)), sym (c .before .judged .ensures)) (c .put-judged .ensures)))  -- returns
+    (λ c. λ L m Γ. rw (sym (tree-of _ _ _ _ _ _ _ (c .before .before .judge-at .ensures)), sym (after-of _ _ _ _ _ _ _ (c .before .before .judge-at .ensures)), sym (c .before .judged .ensures)) (c .put-judged .ensures L m Γ)))  -- returns
