@@ -1,10 +1,11 @@
 // What an expression gives in the machine, over the tables of a program and of a store.
 // Operands are evaluated left to right, each with the node after it; then the form itself. Any numbers in the tables are answered.
 ghost use mathlib.Core.Path.{_≡_};
+ghost use mathlib.Core.Bool.{true};
 ghost use mathlib.Core.List.{List};
-ghost use Prim.Native.Nat.{ℕ};
+ghost use Prim.Native.Nat.{ℕ, _/_, _%_, _<_};
 ghost use lib.IntN.{pos, _+ℤ_};
-ghost use lib.ListN.{length};
+ghost use lib.ListN.{length, getD};
 ghost use Rattle.rules.specs.Program.{Rows};
 ghost use Rattle.rules.specs.View.{rowsFrom, varsFrom, formOf};
 ghost use Rattle.rules.specs.Machine.{Store, evVar, evArith, evVal, evInt, evFetch, moved, evStep};
@@ -203,6 +204,53 @@ fn gives(g: Given, n: usize) -> Gave
     Gave { given: g, next: n }
 }
 
+// Whether a number or a variable stands at a node, and is there at that depth.
+fn is_leaf(nodes: &[u64; 4096], depth: usize, at: usize) -> bool
+    ensures { λ b. ⌜ (b ≡ true → (depth ≡ 0 → ⊥) × (at < 4096) × (arity (formOf (getD (now (nodes .entry)) at 0 / 4294967296)) ≡ 0)) ⌝ }
+{
+    if depth == 0 {
+        return false;
+    }
+    if Limits::NODES <= at {
+        return false;
+    }
+    match program::operation(nodes, at) {
+        1 => true,
+        2 => true,
+        _ => false,
+    }
+}
+
+// What a node without operands gives.
+fn leaf_at(size: &[u32; 6], nodes: &[u64; 4096], vals: &[u64; 32], at: usize) -> Given
+    requires { ⌜ arity (formOf (getD (now nodes) at 0 / 4294967296)) ≡ 0 ⌝ }
+    ensures { λ g. ⌜ ((ρ : Rows) (σ : Store) (D : List ℕ) → g ≡ form ρ σ (valsOf (length (varsFrom (now (size .entry)) D)) (now (vals .entry))) (formOf (getD (now (nodes .entry)) at 0 / 4294967296)) (getD (now (nodes .entry)) at 0 % 4294967296) Given.Stuck Given.Stuck) ⌝ }
+{
+    let op = program::operation(nodes, at);
+    let a = program::argument(nodes, at);
+    leaf(size, vals, op, a)
+}
+
+// The same as the walk, for an operand: most are numbers and variables, and these are answered in place, without a call that goes deeper.
+fn operand(
+    size: &[u32; 6],
+    nodes: &[u64; 4096],
+    store: &[u32; 2],
+    heads: &[u32; 768],
+    cells: &[u64; 4352],
+    vals: &[u64; 32],
+    depth: usize,
+    at: usize,
+) -> Gave
+    ensures { λ g. ⌜ ((R D : List ℕ) → g ≡ gaveAt (rowsFrom (now (size .entry)) R) (storeOf (now (store .entry)) (now (heads .entry)) (now (cells .entry))) (valsOf (length (varsFrom (now (size .entry)) D)) (now (vals .entry))) (now (nodes .entry)) depth at) ⌝ }
+{
+    if is_leaf(nodes, depth, at) {
+        let g = leaf_at(size, nodes, vals, at);
+        return gives(g, at + 1);
+    }
+    given_at(size, nodes, store, heads, cells, vals, depth, at)
+}
+
 // What the expression at a node gives. Past the depth and past the last node nothing is there, and it is stuck.
 pub fn given_at(
     size: &[u32; 6],
@@ -231,14 +279,14 @@ pub fn given_at(
         let g = leaf(size, vals, op, a);
         return gives(g, first);
     }
-    let x = given_at(size, nodes, store, heads, cells, vals, depth - 1, first);
+    let x = operand(size, nodes, store, heads, cells, vals, depth - 1, first);
     let v = x.given;
     let second = x.next;
     if n == 1 {
         let g = one_operand(size, store, heads, cells, op, a, v);
         return gives(g, second);
     }
-    let y = given_at(size, nodes, store, heads, cells, vals, depth - 1, second);
+    let y = operand(size, nodes, store, heads, cells, vals, depth - 1, second);
     let u = y.given;
     let after = y.next;
     gives(two_operands(store, heads, op, v, u), after)

@@ -1,0 +1,20 @@
+use mathlib.Core.Path.{_≡_, ap, sym, _∙_}
+use native.Mathlib.Omega.{arith}
+use Prim.Native.Nat.{ℕ}
+use borrow.Author.Needs.{needs}
+use Rattle.rules.specs.View.{formOf}
+use Rattle.program.specs.Nodes.{arity}
+use Rattle.eval.proofs.is_leaf.Statement.{statement}
+use Rattle.eval.proofs.is_leaf.Tie as tie
+
+pub is-leaf-spec : {M : Type 1} → statement M
+unfolding formOf
+is-leaf-spec =
+    tie.close
+    (tie.spec
+    (λ c e. let z : _≡_ {A = ℕ} 0 1 = cc e in absurd (omega (arith, z)))  -- returns
+    (λ c e. let z : _≡_ {A = ℕ} 0 1 = cc e in absurd (omega (arith, z)))  -- returns-2
+    (λ c κs. search needs)  -- operation-requires
+    (λ c e. (c .before .before .before .if1 .left, c .before .before .if2 .left, ap (λ (o : ℕ). arity (formOf o)) (sym (c .before .operation .ensures) ∙ c .match .keys1)))  -- returns-3
+    (λ c e. (c .before .before .before .if1 .left, c .before .before .if2 .left, ap (λ (o : ℕ). arity (formOf o)) (sym (c .before .operation .ensures) ∙ c .match .keys2)))  -- returns-4
+    (λ c e. let z : _≡_ {A = ℕ} 0 1 = cc e in absurd (omega (arith, z))))  -- returns-5

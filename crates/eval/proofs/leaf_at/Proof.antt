@@ -1,0 +1,17 @@
+use mathlib.Core.Path.{ap, _∙_}
+use Prim.Native.Nat.{ℕ}
+use borrow.Author.Needs.{needs}
+use Rattle.rules.specs.View.{formOf}
+use Rattle.program.specs.Nodes.{arity}
+use Rattle.eval.proofs.Laws.{leaf-read}
+use Rattle.eval.proofs.leaf_at.Statement.{statement}
+use Rattle.eval.proofs.leaf_at.Tie as tie
+
+pub leaf-at-spec : {M : Type 1} → statement M
+leaf-at-spec =
+    tie.close
+    (tie.spec
+    (λ c κs. search needs)  -- operation-requires
+    (λ c κs. search needs)  -- argument-requires
+    (λ c κs. ap (λ (o : ℕ). arity (formOf o)) (c .before .operation .ensures) ∙ c .before .before .pre)  -- leaf-requires
+    (λ c ρ σ D. leaf-read ρ σ _ _ _ _ _ _ (c .before .before .operation .ensures) (c .before .argument .ensures) (c .leaf .ensures ρ σ D)))  -- returns
