@@ -1,7 +1,8 @@
 -- The body lines of the tables. A label takes the environment that stands in its place in the table, whether it is there or not;
 -- every other line is as the rules say, and so is a label that is there (`There`). For the rules an absent label's environment has no entry at all,
 -- and code has no such environment: each has an entry for all 32 variables. Assumes nothing.
-use Rattle.rules.specs.Prelude.{ℕ, _+_, Bool, true, false, List, [], _∷_, _++_, map, length}
+use mathlib.Core.Logic.{_⊎_}
+use Rattle.rules.specs.Prelude.{ℕ, _+_, Bool, true, false, List, [], _∷_, _++_, map, _≡_, length}
 use Rattle.rules.specs.declared.Env.{Env}
 use Rattle.rules.specs.declared.Line.{Line}
 use Rattle.rules.specs.declared.Answer.{Answer}
@@ -19,6 +20,10 @@ use Rattle.body.specs.declared.Deed.{Deed}
 
 abbrev pub lent : List ℕ → List ℕ → List ℕ → List ℕ → List ℕ → List ℕ → Tables
 lent Z R D L N B = record { size = Z; nodes = N; rows = R; vars = D; labels = L; body = B }
+
+-- the kinds of the lines with one expression: `set`, `if`, `return`
+abbrev pub HasOne : ℕ → Type 0
+HasOne n = (n ≡ 1) ⊎ ((n ≡ 4) ⊎ (n ≡ 8))
 
 -- the environment after a line that began with Γ, where the labels stand in L and there are m variables
 abbrev pub left : List ℕ → ℕ → Env → Then → Env

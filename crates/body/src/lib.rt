@@ -15,7 +15,7 @@ ghost use Rattle.rules.specs.Body.{goes, refuse, jump, isBox, isImm, putAt, rul
 ghost use Rattle.program.specs.Labels.{envFrom};
 ghost use Rattle.program.specs.Nodes.{afterOf};
 ghost use Rattle.rules.specs.declared.Env.{Env};
-ghost use Rattle.body.specs.Lines.{lent, left, lineBy, labelLine, lineAt, localsIn, linesIn, typesIn};
+ghost use Rattle.body.specs.Lines.{HasOne, lent, left, lineBy, labelLine, lineAt, localsIn, linesIn, typesIn};
 use number::Index;
 use rules::Addr;
 use rules::Answer;
@@ -432,6 +432,24 @@ fn gated(live: bool, x: Deed) -> Deed
     if live { x } else { refused(12) }
 }
 
+// What the one expression of `set`, `if` and `return` is judged as. It is judged here for all three, so that the environment is handed on once.
+fn own_judged(
+    size: &[u32; 6],
+    rows: &[u32; 17536],
+    vars: &[u32; 96],
+    nodes: &[u64; 4096],
+    env: Env,
+    kind: u32,
+    k: usize,
+) -> Judged
+    ensures { λ j. ⌜ (HasOne kind → j ≡ type (rowsFrom (now (size .entry)) (now (rows .entry))) (varsFrom (now (size .entry)) (now (vars .entry))) env (treeOf (treeAt (now (nodes .entry)) 16 k))) ⌝ }
+{
+    match kind {
+        1 | 4 | 8 => judged(size, rows, vars, nodes, env, k),
+        _ => Judged::No(4),
+    }
+}
+
 // What body line i does, which is reached or not.
 fn deed_of(
     size: &[u32; 6],
@@ -452,30 +470,16 @@ fn deed_of(
     let v = s.variable as usize;
     let n = number::number(s.word);
     let k = s.node as usize;
+    let x = own_judged(size, rows, vars, nodes, env, kind, k);
     match kind {
-        1 => gated(
-            on,
-            rule_set(size, vars, v, judged(size, rows, vars, nodes, env, k)),
-        ),
+        1 => gated(on, rule_set(size, vars, v, x)),
         2 => gated(on, rule_put(size, rows, vars, nodes, env, n, k)),
         3 => gated(on, rule_goto(size, labels, env, l)),
-        4 => gated(
-            on,
-            rule_if(
-                size,
-                labels,
-                env,
-                l,
-                judged(size, rows, vars, nodes, env, k),
-            ),
-        ),
+        4 => gated(on, rule_if(size, labels, env, l, x)),
         5 => gated(on, rule_ifimm(size, vars, labels, env, l, v)),
         6 => gated(on, rule_iftag(size, rows, vars, labels, env, l, v, n)),
         7 => gated(on, rule_ifint(size, rows, vars, labels, env, l, v, n)),
-        8 => gated(
-            on,
-            rule_return(size, judged(size, rows, vars, nodes, env, k)),
-        ),
+        8 => gated(on, rule_return(size, x)),
         9 => rule_label(size, labels, on, env, l),
         _ => refused(4),
     }
