@@ -62,7 +62,7 @@ fn covers_tag(label: Tag, here: Tag) -> bool
     }
 }
 
-pub fn covers_entry(label: Entry, here: Entry) -> bool
+fn covers_entry(label: Entry, here: Entry) -> bool
     ensures { λ r. ⌜ r ≡ coversEntry label here ⌝ }
 {
     let label_boxed = label.boxed;

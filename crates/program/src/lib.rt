@@ -446,37 +446,37 @@ pub fn put_sizes(
 
 // ---- clearing
 
-pub fn clear_size(size: &mut [u32; 6])
+fn clear_size(size: &mut [u32; 6])
     ensures { λ u. ⌜ now (size .exit) ≡ replicate 6 0 ⌝ }
 {
     *size = [0; 6];
 }
 
-pub fn clear_nodes(nodes: &mut [u64; 4096])
+fn clear_nodes(nodes: &mut [u64; 4096])
     ensures { λ u. ⌜ now (nodes .exit) ≡ replicate 4096 0 ⌝ }
 {
     *nodes = [0; 4096];
 }
 
-pub fn clear_rows(rows: &mut [u32; 17536])
+fn clear_rows(rows: &mut [u32; 17536])
     ensures { λ u. ⌜ now (rows .exit) ≡ replicate 17536 0 ⌝ }
 {
     *rows = [0; 17536];
 }
 
-pub fn clear_vars(vars: &mut [u32; 96])
+fn clear_vars(vars: &mut [u32; 96])
     ensures { λ u. ⌜ now (vars .exit) ≡ replicate 96 0 ⌝ }
 {
     *vars = [0; 96];
 }
 
-pub fn clear_labels(labels: &mut [u64; 6208])
+fn clear_labels(labels: &mut [u64; 6208])
     ensures { λ u. ⌜ now (labels .exit) ≡ replicate 6208 0 ⌝ }
 {
     *labels = [0; 6208];
 }
 
-pub fn clear_body(body: &mut [u32; 2560])
+fn clear_body(body: &mut [u32; 2560])
     ensures { λ u. ⌜ now (body .exit) ≡ replicate 2560 0 ⌝ }
 {
     *body = [0; 2560];
