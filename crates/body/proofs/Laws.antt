@@ -6,7 +6,7 @@ use Prim.Native.Nat.{ℕ, suc, _+_, _-_, _<_, _≤_}
 use native.Mathlib.Omega.{arith as lin}
 use native.Mathlib.Numerals.{add-one}
 use lib.Dec.{eqb}
-use lib.ListN.{length, getD, drop, length-map, length-set, drop-of-length-le}
+use lib.ListN.{length, getD, drop, length-map, drop-of-length-le}
 use lib.Seq.{drop-cons, set-out}
 use borrow.Author.Tests.{ne-eqb}
 use Rattle.rules.specs.declared.Env.{Env}
@@ -19,20 +19,19 @@ use Rattle.rules.specs.Answers.{answer, accepted, passes, first}
 use Rattle.rules.specs.Numbers.{numCode}
 use Rattle.rules.specs.Text.Layout.{Tables}
 use Rattle.rules.specs.Laws.Lists.{tab-length}
-use Rattle.rules.specs.Program.{Stmt, badS, Var}
-use Rattle.rules.specs.View.{treeOf, treeAt, Way, noW, setW, putW, gotoW, ifW, ifimmW, iftagW, ifintW, returnW, labelW, wayOf, stmtOf, stmtFrom, labelFrom, kindCode, rowsFrom, varsFrom, labelsFrom, bodyFrom, program}
+use Rattle.rules.specs.Program.{Stmt, badS}
+use Rattle.rules.specs.View.{tab, treeOf, treeAt, Way, noW, setW, putW, gotoW, ifW, ifimmW, iftagW, ifintW, returnW, labelW, wayOf, stmtOf, stmtFrom, kindCode, rowsFrom, varsFrom, labelsFrom, bodyFrom, program}
 use Rattle.rules.specs.Typing.{tyVar, type}
-use Rattle.rules.specs.Environments.{coversEnv, covers, withEntry, startAt, startEnv}
+use Rattle.rules.specs.Environments.{coversEnv, covers, withEntry, startEnv}
 use Rattle.rules.specs.Body.{refuse, ruleSet, rulePut, ruleGoto, ruleIf, ruleIfimm, ruleIftag, ruleIfint, ruleReturn, reached, lineOf, localLine, lastOf, isEnd}
 use Rattle.program.specs.declared.Stored.{Stored}
+use Rattle.coded.specs.Coded.{entryIn, envOf}
 use Rattle.program.specs.Lines.{storedAt}
 use Rattle.program.specs.Labels.{envFrom}
 use Rattle.program.specs.Nodes.{afterOf}
 use Rattle.program.proofs.Laws.{env-in, line-view, line-in, line-drop}
 use Rattle.program.proofs.Walk.{NoneTo, way-rest, with-one, with-two}
-use Rattle.body.specs.declared.Then.{Then}
-use Rattle.body.specs.declared.Then.the-variants.{Stays, Takes, Label}
-use Rattle.body.specs.Lines.{lent, left, labelLine, lineIn, lineAt, numbersIn, localsIn, linesIn, typesIn}
+use Rattle.body.specs.Lines.{lent, labelLine, lineIn, lineAt, numbersIn, localsIn, linesIn, typesIn}
 
 -- ---- labels
 
@@ -41,22 +40,21 @@ pub env-covers : (Z L : List ℕ) (l n : ℕ) (Γ : Env) → l < length (labelsF
 unfolding covers coversEnv
 env-covers Z L l n Γ h = ap (λ (Δ : Env). coversEnv Δ Γ) (env-in Z L l n h)
 
--- ---- what a line leaves has at most 32 entries, as what it began with
+-- ---- an environment beside its numbers
 
-pub start-long : (D : List Var) → length (startEnv D .entries) ≤ 32
-unfolding startEnv
-start-long D = rw (tab-length 32 (startAt D)) (omega lin)
+module _ (Γ : Env) (C : List ℕ) (n : ℕ) (e : Γ ≡ envOf C n) where
+  pub own-count : Γ ≡ envOf C (Γ .count)
+  unfolding envOf
+  own-count = e ∙ ap (envOf C) (sym (ap (λ (x : Env). x .count) e))
 
-pub left-long : (L : List ℕ) (m : ℕ) (Γ : Env) (x : Then) → length (Γ .entries) ≤ 32 → length (left L m Γ x .entries) ≤ 32
-unfolding withEntry envFrom labelFrom
-left-long L m Γ Stays h = h
-left-long L m Γ (Takes v e) h = simp length-set h
-left-long L m Γ (Label l) h = rw (tab-length 32 _) (omega lin)
+  module _ (v : ℕ) (x : Entry) (C′ : List ℕ) (p : envOf C′ n ≡ withEntry (envOf C n) v x) where
+    pub takes-in : withEntry Γ v x ≡ envOf C′ n
+    takes-in = ap (λ (Δ : Env). withEntry Δ v x) e ∙ sym p
 
--- a variable past them takes no entry
-pub left-past : (L : List ℕ) (m : ℕ) (Γ : Env) (v : ℕ) (e : Entry) → length (Γ .entries) ≤ 32 → 32 ≤ v → Γ ≡ left L m Γ (Takes v e)
-unfolding withEntry
-left-past L m Γ v e h past = rw (set-out (Γ .entries) v e (omega lin))
+    -- a variable past the last takes no entry
+    pub takes-past : 32 ≤ v → Γ ≡ withEntry Γ v x
+    unfolding withEntry envOf
+    takes-past h = rw e (sym (rw (set-out (tab 32 (entryIn C)) v x (rw (tab-length 32 (entryIn C)) h))))
 
 -- ---- the line by its kind
 

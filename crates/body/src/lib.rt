@@ -15,6 +15,7 @@ ghost use Rattle.rules.specs.Body.{goes, refuse, jump, isBox, isImm, putAt, rul
 ghost use Rattle.program.specs.Labels.{envFrom};
 ghost use Rattle.program.specs.Nodes.{afterOf};
 ghost use Rattle.rules.specs.declared.Env.{Env};
+ghost use Rattle.coded.specs.Coded.{envOf};
 ghost use Rattle.body.specs.Lines.{HasOne, lent, left, lineBy, labelLine, lineAt, localsIn, linesIn, typesIn};
 use number::Index;
 use rules::Addr;
@@ -25,7 +26,6 @@ use rules::Env;
 use rules::Judged;
 use rules::Kind;
 use rules::Limits;
-use rules::Line;
 use rules::Num;
 use rules::Offset;
 use rules::Tag;
@@ -118,7 +118,7 @@ fn lands(size: &[u32; 6], labels: &[u64; 6208], l: usize, env: Env) -> bool
 {
     let n = program::label_count(size);
     if l < n {
-        entry::covers_env(program::label_env(size, labels, l), env)
+        program::label_covers(labels, l, env)
     } else {
         false
     }
@@ -135,18 +135,19 @@ fn jump_to(size: &[u32; 6], labels: &[u64; 6208], l: usize, there: Env, on: Deed
     }
 }
 
-// What the expression at node k is judged as.
+// What the expression at node k is judged as, in the environment that the codes stand for.
 fn judged(
     size: &[u32; 6],
     rows: &[u32; 17536],
     vars: &[u32; 96],
     nodes: &[u64; 4096],
-    env: Env,
+    codes: &[u64; 96],
+    count: usize,
     k: usize,
 ) -> Judged
-    ensures { λ j. ⌜ j ≡ type (rowsFrom (now (size .entry)) (now (rows .entry))) (varsFrom (now (size .entry)) (now (vars .entry))) env (treeOf (treeAt (now (nodes .entry)) 16 k)) ⌝ }
+    ensures { λ j. ⌜ j ≡ type (rowsFrom (now (size .entry)) (now (rows .entry))) (varsFrom (now (size .entry)) (now (vars .entry))) (envOf (now (codes .entry)) count) (treeOf (treeAt (now (nodes .entry)) 16 k)) ⌝ }
 {
-    let f = typing::judge_at(size, rows, vars, nodes, env, Limits::DEPTH, k);
+    let f = typing::judge_at(size, rows, vars, nodes, codes, count, Limits::DEPTH, k);
     f.judged
 }
 
@@ -212,16 +213,17 @@ fn rule_put(
     rows: &[u32; 17536],
     vars: &[u32; 96],
     nodes: &[u64; 4096],
-    env: Env,
+    codes: &[u64; 96],
+    count: usize,
     n: Num,
     k: usize,
 ) -> Deed
-    ensures { λ r. ⌜ ((L : List ℕ) (m : ℕ) (Γ : Env) → lineBy L m Γ r ≡ rulePut (rowsFrom (now (size .entry)) (now (rows .entry))) n (type (rowsFrom (now (size .entry)) (now (rows .entry))) (varsFrom (now (size .entry)) (now (vars .entry))) env (treeOf (treeAt (now (nodes .entry)) 16 k))) (type (rowsFrom (now (size .entry)) (now (rows .entry))) (varsFrom (now (size .entry)) (now (vars .entry))) env (treeOf (treeAt (now (nodes .entry)) 16 (afterOf (treeAt (now (nodes .entry)) 16 k))))) Γ) ⌝ }
+    ensures { λ r. ⌜ ((L : List ℕ) (m : ℕ) (Γ : Env) → lineBy L m Γ r ≡ rulePut (rowsFrom (now (size .entry)) (now (rows .entry))) n (type (rowsFrom (now (size .entry)) (now (rows .entry))) (varsFrom (now (size .entry)) (now (vars .entry))) (envOf (now (codes .entry)) count) (treeOf (treeAt (now (nodes .entry)) 16 k))) (type (rowsFrom (now (size .entry)) (now (rows .entry))) (varsFrom (now (size .entry)) (now (vars .entry))) (envOf (now (codes .entry)) count) (treeOf (treeAt (now (nodes .entry)) 16 (afterOf (treeAt (now (nodes .entry)) 16 k))))) Γ) ⌝ }
 {
-    let f = typing::judge_at(size, rows, vars, nodes, env, Limits::DEPTH, k);
+    let f = typing::judge_at(size, rows, vars, nodes, codes, count, Limits::DEPTH, k);
     let x = f.judged;
     let next = f.next;
-    let y = judged(size, rows, vars, nodes, env, next);
+    let y = judged(size, rows, vars, nodes, codes, count, next);
     put_judged(size, rows, n, x, y)
 }
 
@@ -412,8 +414,7 @@ fn rule_label(size: &[u32; 6], labels: &[u64; 6208], live: bool, env: Env, l: us
     ensures { λ r. ⌜ ((D : List ℕ) → lineBy (now (labels .entry)) (length (varsFrom (now (size .entry)) D)) env r ≡ labelLine (envFrom (now (labels .entry)) l (length (varsFrom (now (size .entry)) D))) live env) ⌝ }
 {
     if live {
-        let own = program::label_env(size, labels, l);
-        if entry::covers_env(own, env) {
+        if program::label_covers(labels, l, env) {
             went(true, Then::Label(l))
         } else {
             refused(11)
@@ -432,25 +433,26 @@ fn gated(live: bool, x: Deed) -> Deed
     if live { x } else { refused(12) }
 }
 
-// What the one expression of `set`, `if` and `return` is judged as. It is judged here for all three, so that the environment is handed on once.
+// What the one expression of `set`, `if` and `return` is judged as. It is judged in one place for all three.
 fn own_judged(
     size: &[u32; 6],
     rows: &[u32; 17536],
     vars: &[u32; 96],
     nodes: &[u64; 4096],
-    env: Env,
+    codes: &[u64; 96],
+    count: usize,
     kind: u32,
     k: usize,
 ) -> Judged
-    ensures { λ j. ⌜ (HasOne kind → j ≡ type (rowsFrom (now (size .entry)) (now (rows .entry))) (varsFrom (now (size .entry)) (now (vars .entry))) env (treeOf (treeAt (now (nodes .entry)) 16 k))) ⌝ }
+    ensures { λ j. ⌜ (HasOne kind → j ≡ type (rowsFrom (now (size .entry)) (now (rows .entry))) (varsFrom (now (size .entry)) (now (vars .entry))) (envOf (now (codes .entry)) count) (treeOf (treeAt (now (nodes .entry)) 16 k))) ⌝ }
 {
     match kind {
-        1 | 4 | 8 => judged(size, rows, vars, nodes, env, k),
+        1 | 4 | 8 => judged(size, rows, vars, nodes, codes, count, k),
         _ => Judged::No(4),
     }
 }
 
-// What body line i does, which is reached or not.
+// What body line i does, which is reached or not. The codes stand for the environment.
 fn deed_of(
     size: &[u32; 6],
     rows: &[u32; 17536],
@@ -458,10 +460,12 @@ fn deed_of(
     labels: &[u64; 6208],
     nodes: &[u64; 4096],
     body: &[u32; 2560],
+    codes: &[u64; 96],
     on: bool,
     env: Env,
     i: usize,
 ) -> Deed
+    requires { ⌜ env ≡ envOf (now codes) (env .count) ⌝ }
     ensures { λ r. ⌜ lineBy (now (labels .entry)) (length (varsFrom (now (size .entry)) (now (vars .entry)))) env r ≡ lineAt (lent (now (size .entry)) (now (rows .entry)) (now (vars .entry)) (now (labels .entry)) (now (nodes .entry)) (now (body .entry))) on env i ⌝ }
 {
     let s = program::line_at(body, i);
@@ -470,10 +474,11 @@ fn deed_of(
     let v = s.variable as usize;
     let n = number::number(s.word);
     let k = s.node as usize;
-    let x = own_judged(size, rows, vars, nodes, env, kind, k);
+    let count = env.count;
+    let x = own_judged(size, rows, vars, nodes, codes, count, kind, k);
     match kind {
         1 => gated(on, rule_set(size, vars, v, x)),
-        2 => gated(on, rule_put(size, rows, vars, nodes, env, n, k)),
+        2 => gated(on, rule_put(size, rows, vars, nodes, codes, count, n, k)),
         3 => gated(on, rule_goto(size, labels, env, l)),
         4 => gated(on, rule_if(size, labels, env, l, x)),
         5 => gated(on, rule_ifimm(size, vars, labels, env, l, v)),
@@ -482,41 +487,6 @@ fn deed_of(
         8 => gated(on, rule_return(size, x)),
         9 => rule_label(size, labels, on, env, l),
         _ => refused(4),
-    }
-}
-
-// The environment after a line.
-fn after(size: &[u32; 6], labels: &[u64; 6208], env: Env, then: Then) -> Env
-    ensures { λ e. ⌜ ((D : List ℕ) → e ≡ left (now (labels .entry)) (length (varsFrom (now (size .entry)) D)) env then) ⌝ }
-{
-    match then {
-        Then::Stays => env,
-        Then::Takes(v, e) => entry::with_entry(env, v, e),
-        Then::Label(l) => program::label_env(size, labels, l),
-    }
-}
-
-// Body line i, which is reached or not: what it does to the environment, or its answer.
-pub fn line_judged(
-    size: &[u32; 6],
-    rows: &[u32; 17536],
-    vars: &[u32; 96],
-    labels: &[u64; 6208],
-    nodes: &[u64; 4096],
-    body: &[u32; 2560],
-    on: bool,
-    env: Env,
-    i: usize,
-) -> Line
-    ensures { λ r. ⌜ r ≡ lineAt (lent (now (size .entry)) (now (rows .entry)) (now (vars .entry)) (now (labels .entry)) (now (nodes .entry)) (now (body .entry))) on env i ⌝ }
-{
-    let x = deed_of(size, rows, vars, labels, nodes, body, on, env, i);
-    let then = x.then;
-    let left = after(size, labels, env, then);
-    Line {
-        answer: x.answer,
-        live: x.live,
-        env: left,
     }
 }
 
@@ -605,25 +575,21 @@ fn start_entry(size: &[u32; 6], vars: &[u32; 96], v: usize) -> Entry
     }
 }
 
-fn start_env(size: &[u32; 6], vars: &[u32; 96]) -> Env
-    ensures { λ e. ⌜ e ≡ startEnv (varsFrom (now (size .entry)) (now (vars .entry))) ⌝ }
+// The numbers of the environment in which the body starts.
+fn start_codes(size: &[u32; 6], vars: &[u32; 96]) -> [u64; 96]
+    ensures { λ r. ⌜ envOf r (length (varsFrom (now (size .entry)) (now (vars .entry)))) ≡ startEnv (varsFrom (now (size .entry)) (now (vars .entry))) ⌝ }
 {
-    let count = program::var_count(size);
-    let blank = Entry::LOOSEST;
-    let mut entries = [blank; 32];
+    let mut codes = [0u64; 96];
     let mut v = 0;
     while v < 32 {
         let e = start_entry(size, vars, v);
-        entries[v] = e;
+        coded::put_entry(&mut codes, v, e);
         v += 1;
     }
-    Env {
-        entries: entries,
-        count: count,
-    }
+    codes
 }
 
-// The lines of the body, each in the environment that the line before it leaves.
+// The lines of the body, each in the environment that the line before it leaves. Its numbers are kept beside it, for the expressions.
 fn lines_typed(
     size: &[u32; 6],
     rows: &[u32; 17536],
@@ -634,13 +600,15 @@ fn lines_typed(
 ) -> Answer
     ensures { λ r. ⌜ r ≡ linesIn (lent (now (size .entry)) (now (rows .entry)) (now (vars .entry)) (now (labels .entry)) (now (nodes .entry)) (now (body .entry))) ⌝ }
 {
-    let from = 2 + program::row_count(size) + program::var_count(size);
+    let count = program::var_count(size);
+    let from = 2 + program::row_count(size) + count;
     let n = program::line_count(size);
     let mut live = true;
-    let mut env = start_env(size, vars);
+    let mut codes = start_codes(size, vars);
+    let mut env = coded::env_of(&codes, count);
     let mut i = 0;
     while i < n {
-        let x = deed_of(size, rows, vars, labels, nodes, body, live, env, i);
+        let x = deed_of(size, rows, vars, labels, nodes, body, &codes, live, env, i);
         let a = x.answer;
         if a != 0 {
             return answered(a, from + i);
@@ -650,12 +618,14 @@ fn lines_typed(
         match then {
             Then::Stays => {}
             Then::Takes(v, e) => {
+                coded::put_entry(&mut codes, v, e);
                 if v < 32 {
                     env.entries[v] = e;
                 }
             }
             Then::Label(l) => {
-                env = program::label_env(size, labels, l);
+                codes = program::label_codes(labels, l);
+                env = coded::env_of(&codes, count);
             }
         }
         i += 1;

@@ -49,8 +49,8 @@ number-suits κs a x y s t = result
 
 -- ---- entry
 
-pub entry-covers-env : Determined entry.covers_env.ended entry.covers_env.Reads.Learnt
-entry-covers-env κs a x y s t = result
+pub entry-covers-entry : Determined entry.covers_entry.ended entry.covers_entry.Reads.Learnt
+entry-covers-entry κs a x y s t = result
 
 pub entry-entry-at : Determined entry.entry_at.ended entry.entry_at.Reads.Learnt
 entry-entry-at κs a x y s t = result

@@ -83,8 +83,11 @@ program-label-line κs a x y s t = result
 pub program-label-entry : Determined program.label_entry.ended program.label_entry.Reads.Learnt
 program-label-entry κs a x y s t = result
 
-pub program-label-env : Determined program.label_env.ended program.label_env.Reads.Learnt
-program-label-env κs a x y s t h k = result (h []) (k [])
+pub program-label-covers : Determined program.label_covers.ended program.label_covers.Reads.Learnt
+program-label-covers κs a x y s t h k = result (h 0) (k 0)
+
+pub program-label-codes : Determined program.label_codes.ended program.label_codes.Reads.Learnt
+program-label-codes κs a x y s t = result
 
 pub program-operation : Determined program.operation.ended program.operation.Reads.Learnt
 program-operation κs a x y s t = result

@@ -1,12 +1,11 @@
 // Entries, environments and data by value: when one covers another, what stands where, and their numbers in tables.
 ghost use mathlib.Core.Path.{_≡_};
-ghost use Prim.Native.Nat.{_<_};
 ghost use lib.ListN.{getD};
 ghost use Rattle.rules.specs.When.{need};
 ghost use Rattle.rules.specs.Program.{entry, noEntry, isZero};
 ghost use Rattle.rules.specs.View.{boxedCode, offsetCode, tagCode};
 ghost use Rattle.rules.specs.Typing.{intEntry, immEntry};
-ghost use Rattle.rules.specs.Environments.{withEntry, withBoxed, withTag, coversBoxed, coversOffset, coversTag, coversEntry, coversEnv};
+ghost use Rattle.rules.specs.Environments.{withEntry, withBoxed, withTag, coversBoxed, coversOffset, coversTag, coversEntry};
 ghost use Rattle.rules.specs.Machine.Tables.{datumCode, codeOf};
 ghost use Rattle.entry.specs.Codes.{boxedTo, offsetTo, tagTo, codesOf, writable};
 use rules::Boxed;
@@ -62,7 +61,7 @@ fn covers_tag(label: Tag, here: Tag) -> bool
     }
 }
 
-fn covers_entry(label: Entry, here: Entry) -> bool
+pub fn covers_entry(label: Entry, here: Entry) -> bool
     ensures { λ r. ⌜ r ≡ coversEntry label here ⌝ }
 {
     let label_boxed = label.boxed;
@@ -80,27 +79,6 @@ fn covers_entry(label: Entry, here: Entry) -> bool
     } else {
         false
     }
-}
-
-// Over as many variables as `here` has. Past 32 both have the entry that covers itself.
-pub fn covers_env(label: Env, here: Env) -> bool
-    ensures { λ r. ⌜ r ≡ coversEnv label here ⌝ }
-{
-    let n = here.count;
-    let mut i = 0;
-    while i < n {
-        if 32 <= i {
-            return true;
-        }
-        let l = label.entries[i];
-        let h = here.entries[i];
-        if covers_entry(l, h) {
-            i += 1;
-        } else {
-            return false;
-        }
-    }
-    true
 }
 
 // ---- environments

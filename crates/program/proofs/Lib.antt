@@ -1,3 +1,4 @@
+mod Covers
 pub mod LabelLines
 pub mod Laws
 pub mod Places

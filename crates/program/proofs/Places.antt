@@ -1,11 +1,10 @@
--- What is written past a table, and the entries of a label written one after another. Assumes nothing.
+-- What is written past a table, and a list whose places are written one after another. Assumes nothing.
 use native.Mathlib.Omega.{arith as lin}
 use mathlib.Core.Path.{_≡_, refl}
 use mathlib.Core.List.{List}
 use Prim.Native.Nat.{ℕ, zero, suc, _+_, _-_, _*_, _<_, _≤_}
 use lib.ListN.{length, set, replicate, List·getD-eq-default}
 use lib.Seq.{set-out}
-use Rattle.rules.specs.declared.Entry.{Entry}
 use Rattle.rules.specs.Text.Layout.{cell, rowWidth, varWidth, labelWidth, lineWidth}
 use Rattle.rules.specs.Text.Fill.{putVar, putLine, putEntry, putField}
 use Rattle.rules.specs.View.{tab}
@@ -37,24 +36,29 @@ unfolding putField
 fields-past R r k o q h =
     rw (set-out R (r * 274 + 18 + k * 16 + o) q (omega (lin, h)), set-out R (r * 274 + 2 + k) (o + 1) (omega (lin, h)), set-out R (r * 274 + 1) (k + 1) (omega (lin, h)))
 
--- ---- entries
+-- ---- a list entered from its first place on
 
--- 32 entries, one after another: n of them from v on
-unfoldable pub entered : ℕ → ℕ → (ℕ → Entry) → List Entry → List Entry
+-- m more of them, from v on
+unfoldable pub entered : {A : Type 0} → ℕ → ℕ → (ℕ → A) → List A → List A
 entered zero v f xs = xs
-entered (suc n) v f xs = entered n (v + 1) f (set xs v (f v))
+entered (suc m) v f xs = entered m (v + 1) f (set xs v (f v))
 
-pub entered-step : (v : ℕ) (f : ℕ → Entry) (xs : List Entry) (e : Entry) → v < 32 → e ≡ f v → entered (32 - (v + 1)) (v + 1) f (set xs v e) ≡ entered (32 - v) v f xs
-unfolding entered
-entered-step v f xs e h q =
-    let s : 32 - v ≡ suc (32 - (v + 1)) = omega lin in
-    rw (s, q)
+module _ {A : Type 0} (n v : ℕ) (f : ℕ → A) (xs : List A) where
+  pub entered-step : (x : A) → v < n → x ≡ f v → entered (n - (v + 1)) (v + 1) f (set xs v x) ≡ entered (n - v) v f xs
+  unfolding entered
+  entered-step x h q =
+      let s : n - v ≡ suc (n - (v + 1)) = omega lin in
+      rw (s, q)
 
-pub entered-end : (v : ℕ) (f : ℕ → Entry) (xs : List Entry) → 32 ≤ v → entered (32 - v) v f xs ≡ xs
-unfolding entered
-entered-end v f xs h = let s : 32 - v ≡ 0 = omega lin in rw s
+  pub entered-end : n ≤ v → entered (n - v) v f xs ≡ xs
+  unfolding entered
+  entered-end h = let s : n - v ≡ 0 = omega lin in rw s
 
--- whatever stood there
-pub entered-all : (f : ℕ → Entry) (b : Entry) → entered 32 0 f (replicate 32 b) ≡ tab 32 f
+-- whatever stood there: of 32 entries, and of their 96 numbers
+pub entered-all : {A : Type 0} (f : ℕ → A) (b : A) → entered 32 0 f (replicate 32 b) ≡ tab 32 f
 unfolding entered tab
 entered-all f b = refl
+
+pub numbers-all : (f : ℕ → ℕ) → entered 96 0 f (replicate 96 0) ≡ tab 96 f
+unfolding entered tab
+numbers-all f = refl

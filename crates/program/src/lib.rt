@@ -4,12 +4,12 @@ ghost use mathlib.Core.List.{List, [], _∷_};
 ghost use Prim.Native.Nat.{ℕ, _+_, _-_, _*_, _/_, _%_, _<_};
 ghost use lib.ListN.{length, getD, set, replicate};
 ghost use Rattle.rules.specs.Program.{psiOf, prodsOf, fieldsOf, fieldOf, kindAt, labelAt, rowThere, varThere, labelThere, noEntry};
-ghost use Rattle.rules.specs.Environments.{noVar};
+ghost use Rattle.rules.specs.Environments.{noVar, coversEnv};
 ghost use Rattle.rules.specs.Text.Layout.{cell, rowWidth, varWidth, labelWidth, zeros};
 ghost use Rattle.rules.specs.Text.Fill.{putVar, putField, putLine, putEntry};
 ghost use Rattle.rules.specs.View.{psiCode, kindCode, entryFrom, formOf, rowsFrom, varsFrom, labelsFrom, bodyFrom, program};
 ghost use Rattle.program.specs.Lines.{storedAt, isLabelLine, tablesOf};
-ghost use Rattle.program.specs.Labels.{envFrom};
+ghost use Rattle.program.specs.Labels.{envFrom, codesFrom};
 ghost use Rattle.program.specs.Nodes.{arity};
 use rules::Boxed;
 use rules::Entry;
@@ -269,23 +269,40 @@ pub fn label_entry(size: &[u32; 6], labels: &[u64; 6208], l: usize, v: usize) ->
     }
 }
 
-// The environment of label l. Of a label that is absent, the one that stands in its place.
-pub fn label_env(size: &[u32; 6], labels: &[u64; 6208], l: usize) -> Env
-    ensures { λ e. ⌜ ((D : List ℕ) → e ≡ envFrom (now (labels .entry)) l (length (varsFrom (now (size .entry)) D))) ⌝ }
+// The numbers of label l's entries, as they stand. Of a label that is absent, those in its place.
+pub fn label_codes(labels: &[u64; 6208], l: usize) -> [u64; 96]
+    ensures { λ r. ⌜ r ≡ codesFrom (now (labels .entry)) l ⌝ }
 {
-    let count = var_count(size);
-    let blank = no_entry();
-    let mut entries = [blank; 32];
+    let mut codes = [0u64; 96];
+    let mut k = 0;
+    while k < 96 {
+        let x = label_cell(labels, l, k + 1);
+        codes[k] = x;
+        k += 1;
+    }
+    codes
+}
+
+// Whether label l's environment covers another, over as many variables as that one has. Past 32 both have the entry that covers itself.
+// Of a label that is absent, the environment that stands in its place.
+pub fn label_covers(labels: &[u64; 6208], l: usize, env: Env) -> bool
+    ensures { λ b. ⌜ ((n : ℕ) → b ≡ coversEnv (envFrom (now (labels .entry)) l n) env) ⌝ }
+{
+    let n = env.count;
     let mut v = 0;
-    while v < 32 {
-        let e = entry_at(labels, l, v);
-        entries[v] = e;
-        v += 1;
+    while v < n {
+        if 32 <= v {
+            return true;
+        }
+        let own = entry_at(labels, l, v);
+        let here = env.entries[v];
+        if entry::covers_entry(own, here) {
+            v += 1;
+        } else {
+            return false;
+        }
     }
-    Env {
-        entries: entries,
-        count: count,
-    }
+    true
 }
 
 // ---- nodes and body lines

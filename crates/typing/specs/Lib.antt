@@ -1,2 +1,1 @@
-pub mod Coded
 pub mod Walk

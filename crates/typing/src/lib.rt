@@ -1,10 +1,8 @@
-// The judgement of an expression over a program's tables: nodes in preorder, the rows, the variables, and the environment by value.
+// The judgement of an expression over a program's tables: nodes in preorder, the rows, the variables, and the environment as numbers, which are lent.
 // Operands are judged left to right, each with the node after it; then the form itself.
-// The environment is not passed from call to call: its entries are written once as numbers, as a label's stand in their table, and lent.
 ghost use mathlib.Core.Path.{_≡_};
 ghost use mathlib.Core.List.{List};
 ghost use Prim.Native.Nat.{ℕ, _<_};
-ghost use lib.ListN.{length};
 ghost use lib.IntN.{pos, _+ℤ_};
 ghost use Rattle.rules.specs.Numbers.{num};
 ghost use Rattle.rules.specs.Program.{Rows, Var, entry};
@@ -12,7 +10,7 @@ ghost use Rattle.rules.specs.View.{rowsFrom, varsFrom, formOf};
 ghost use Rattle.rules.specs.Typing.{arithTag, arithKinds, suitsTag, valOf, immediate, intOf, lone, spot, spotOf, addrAt, addrSpot, addressOf, fetched, stepped, stepKinds, tyVar, tyArith, tyVal, tyInt, tyFetch, tyStep};
 ghost use Rattle.number.specs.Places.{indexIn};
 ghost use Rattle.program.specs.Nodes.{arity};
-ghost use Rattle.typing.specs.Coded.{entryIn, Coded, Put, Held};
+ghost use Rattle.coded.specs.Coded.{envOf};
 ghost use Rattle.typing.specs.Walk.{form, found, foundAt};
 ghost use Rattle.rules.specs.declared.Env.{Env};
 use number::Index;
@@ -35,43 +33,14 @@ pub struct Found {
     pub next: usize,
 }
 
-// ---- the environment as numbers
-
-// The entry of variable v, of those that are written in codes. Past them it is that of three zeros.
-fn entry_in(codes: &[u64; 96], v: usize) -> Entry
-    ensures { λ e. ⌜ e ≡ entryIn (now (codes .entry)) v ⌝ }
-{
-    if v < 32 {
-        let k = v * 3;
-        entry::entry_of(codes[k], codes[k + 1], codes[k + 2])
-    } else {
-        entry::entry_of(0, 0, 0)
-    }
-}
-
-// Writes the entry of variable v.
-fn put_entry(codes: &mut [u64; 96], v: usize, e: Entry)
-    requires { ⌜ (v < 32) × (length (now codes) ≡ 96) ⌝ }
-    ensures { λ u. ⌜ Put (now (codes .entry)) v e (now (codes .exit)) ⌝ }
-{
-    let c = entry::codes_of(e);
-    let b = c.boxed;
-    let i = c.offset;
-    let t = c.tag;
-    let k = v * 3;
-    codes[k] = b;
-    codes[k + 1] = i;
-    codes[k + 2] = t;
-}
-
 // ---- variables and arithmetic
 
 // Variable v in the environment that the codes stand for.
 fn var_coded(size: &[u32; 6], vars: &[u32; 96], codes: &[u64; 96], count: usize, v: usize) -> Judged
-    ensures { λ j. ⌜ ((Γ : Env) → Coded (now (codes .entry)) count Γ → j ≡ tyVar (varsFrom (now (size .entry)) (now (vars .entry))) Γ v) ⌝ }
+    ensures { λ j. ⌜ j ≡ tyVar (varsFrom (now (size .entry)) (now (vars .entry))) (envOf (now (codes .entry)) count) v ⌝ }
 {
     if v < count {
-        Judged::Ok(program::kind_of(size, vars, v), entry_in(codes, v))
+        Judged::Ok(program::kind_of(size, vars, v), coded::entry_in(codes, v))
     } else {
         Judged::No(4)
     }
@@ -403,7 +372,7 @@ fn leaf(
     a: u32,
 ) -> Judged
     requires { ⌜ arity (formOf op) ≡ 0 ⌝ }
-    ensures { λ j. ⌜ ((ρ : Rows) (Γ : Env) → Coded (now (codes .entry)) count Γ → j ≡ form ρ (varsFrom (now (size .entry)) (now (vars .entry))) Γ (formOf op) a (Judged.No 4) (Judged.No 4)) ⌝ }
+    ensures { λ j. ⌜ ((ρ : Rows) → j ≡ form ρ (varsFrom (now (size .entry)) (now (vars .entry))) (envOf (now (codes .entry)) count) (formOf op) a (Judged.No 4) (Judged.No 4)) ⌝ }
 {
     match op {
         1 => Judged::Ok(Kind::Cint, entry::int_entry(Tag::Known(number::number(a)))),
@@ -446,7 +415,7 @@ fn gives(j: Judged, n: usize) -> Found
 }
 
 // What the expression at a node is judged as, in the environment that the codes stand for. Past the depth and past the last node nothing is there (4).
-fn judge_node(
+pub fn judge_at(
     size: &[u32; 6],
     rows: &[u32; 17536],
     vars: &[u32; 96],
@@ -456,7 +425,7 @@ fn judge_node(
     depth: usize,
     at: usize,
 ) -> Found
-    ensures { λ f. ⌜ ((Γ : Env) → Coded (now (codes .entry)) count Γ → f ≡ foundAt (rowsFrom (now (size .entry)) (now (rows .entry))) (varsFrom (now (size .entry)) (now (vars .entry))) Γ (now (nodes .entry)) depth at) ⌝ }
+    ensures { λ f. ⌜ f ≡ foundAt (rowsFrom (now (size .entry)) (now (rows .entry))) (varsFrom (now (size .entry)) (now (vars .entry))) (envOf (now (codes .entry)) count) (now (nodes .entry)) depth at ⌝ }
 {
     if depth == 0 {
         return gives(Judged::No(4), at);
@@ -471,45 +440,14 @@ fn judge_node(
     if n == 0 {
         return gives(leaf(size, vars, codes, count, op, a), first);
     }
-    let x = judge_node(size, rows, vars, nodes, codes, count, depth - 1, first);
+    let x = judge_at(size, rows, vars, nodes, codes, count, depth - 1, first);
     let v = x.judged;
     let second = x.next;
     if n == 1 {
         return gives(one_operand(size, rows, op, a, v), second);
     }
-    let y = judge_node(size, rows, vars, nodes, codes, count, depth - 1, second);
+    let y = judge_at(size, rows, vars, nodes, codes, count, depth - 1, second);
     let u = y.judged;
     let after = y.next;
     gives(two_operands(size, rows, op, v, u), after)
-}
-
-// How many of n variables have entries of their own.
-fn held(n: usize) -> usize
-    ensures { λ r. ⌜ Held n r ⌝ }
-{
-    if n < 32 { n } else { 32 }
-}
-
-// What the expression at a node is judged as in an environment, whose entries are written once for the whole walk.
-pub fn judge_at(
-    size: &[u32; 6],
-    rows: &[u32; 17536],
-    vars: &[u32; 96],
-    nodes: &[u64; 4096],
-    env: Env,
-    depth: usize,
-    at: usize,
-) -> Found
-    ensures { λ f. ⌜ f ≡ foundAt (rowsFrom (now (size .entry)) (now (rows .entry))) (varsFrom (now (size .entry)) (now (vars .entry))) env (now (nodes .entry)) depth at ⌝ }
-{
-    let mut codes = [0u64; 96];
-    let count = env.count;
-    let n = held(count);
-    let mut v = 0;
-    while v < n {
-        let e = env.entries[v];
-        put_entry(&mut codes, v, e);
-        v += 1;
-    }
-    judge_node(size, rows, vars, nodes, &codes, count, depth, at)
 }

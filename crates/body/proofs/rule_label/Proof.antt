@@ -1,4 +1,6 @@
 use Rattle.body.specs.Lines.{labelLine}
+use Rattle.rules.specs.View.{varsFrom}
+use lib.ListN.{length}
 use mathlib.Core.Path.{_∙_, sym}
 use borrow.Author.Needs.{needs}
 use Rattle.body.proofs.rule_label.Statement.{statement}
@@ -9,11 +11,10 @@ unfolding labelLine
 rule-label-spec =
     tie.close
     (tie.spec
-    (λ c κs. search needs)  -- label-env-requires
-    (λ c κs. search needs)  -- covers-env-requires
+    (λ c κs. search needs)  -- label-covers-requires
     (λ c κs. search needs)  -- went-requires
     (λ c κs. search needs)  -- refused-requires
     (λ c κs. search needs)  -- went-requires-2
-    (λ c. λ D. rw (c .before .before .before .before .if1 .taken) (rw (sym (rw (c .before .before .before .label-env .ensures D) at (c .before .before .covers-env .ensures)) ∙ c .before .if2 .taken) (c .went .ensures _ _ (c .before .before .before .before .before .args .env))))  -- returns
-    (λ c. λ D. rw (c .before .before .before .before .if1 .taken) (rw (sym (rw (c .before .before .before .label-env .ensures D) at (c .before .before .covers-env .ensures)) ∙ c .before .if2 .left) (c .refused .ensures _ _ (c .before .before .before .before .before .args .env))))  -- returns-2
+    (λ c. λ D. rw (c .before .before .before .if1 .taken, sym (c .before .before .label-covers .ensures (length (varsFrom (c .before .before .before .before .args .size .now) D))) ∙ c .before .if2 .taken) (c .went .ensures _ _ (c .before .before .before .before .args .env)))  -- returns
+    (λ c. λ D. rw (c .before .before .before .if1 .taken, sym (c .before .before .label-covers .ensures (length (varsFrom (c .before .before .before .before .args .size .now) D))) ∙ c .before .if2 .left) (c .refused .ensures _ _ (c .before .before .before .before .args .env)))  -- returns-2
     (λ c. λ D. rw (c .before .if1 .left) (c .went2 .ensures _ _ (c .before .before .args .env))))  -- returns-3

@@ -14,6 +14,6 @@ leaf-spec =
     (λ c κs. search needs)  -- number-requires
     (λ c κs. search needs)  -- int-entry-requires
     (λ c κs. search needs)  -- var-coded-requires
-    (λ c ρ Γ h. rw (c .before .before .match .keys1) (rw (sym (c .before .number .ensures)) (rw (c .int-entry .ensures) refl)))  -- returns
-    (λ c ρ Γ h. rw (c .before .match .keys2) (c .var-coded .ensures Γ h))  -- returns-2
-    (λ c ρ Γ h. rw (leaf-rest _ (c .match .rest) (c .before .pre)) refl))  -- returns-3
+    (λ c ρ. rw (c .before .before .match .keys1) (rw (sym (c .before .number .ensures)) (rw (c .int-entry .ensures) refl)))  -- returns
+    (λ c ρ. rw (c .before .match .keys2) (c .var-coded .ensures))  -- returns-2
+    (λ c ρ. rw (leaf-rest _ (c .match .rest) (c .before .pre)) refl))  -- returns-3
