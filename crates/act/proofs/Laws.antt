@@ -1,12 +1,11 @@
--- A tag as a number, how many variables there are, and a body line by the number of its kind. Assumes nothing.
+-- The tests of `iftag`, how many variables there are, and a body line by the number of its kind. Assumes nothing.
 use native.Mathlib.Omega.{arith as lin}
-use borrow.Author.Tests.{lt-ltb, le-ltb, eq-eqb, ne-eqb, ltb-false}
-use mathlib.Core.Path.{_≡_, refl, sym, ap, _∙_}
+use borrow.Author.Tests.{lt-ltb, le-ltb, eq-eqb, ne-eqb}
+use mathlib.Core.Path.{_≡_, sym, ap, _∙_}
 use mathlib.Core.Bool.{Bool, true, false}
 use mathlib.Core.List.{List}
-use Prim.Native.Nat.{ℕ, _+_, _<_, _≤_}
-use lib.Dec.{eqb}
-use lib.IntN.{ℤ, pos, negsuc}
+use Prim.Native.Nat.{ℕ, _<_, _≤_}
+use lib.IntN.{pos}
 use lib.ListN.{length, List·getD-eq-default}
 use Rattle.rules.specs.declared.Num.{Num}
 use Rattle.rules.specs.declared.Datum.the-variants.{Place}
@@ -20,8 +19,6 @@ use Rattle.rules.specs.View.{treeOf, treeAt, Way, noW, wayOf, stmtOf, stmtFrom,
 use Rattle.rules.specs.Laws.Lists.{tab-length}
 use Rattle.rules.specs.Machine.{Store, tagIn, evVar, eval, jumpOn, actSet, actPut, actIf, actIfimm, actIftag, actIfint, actReturn, act, decide}
 use Rattle.rules.specs.Machine.Tables.{storeOf, valsOf}
-use Rattle.number.specs.declared.Index.the-variants.{At, Outside}
-use Rattle.number.specs.Places.{indexIn, index-at, index-out}
 use Rattle.program.specs.declared.Stored.{Stored}
 use Rattle.program.specs.Lines.{storedAt, tablesOf}
 use Rattle.program.specs.Nodes.{afterOf}
@@ -29,14 +26,6 @@ use Rattle.program.proofs.Laws.{line-view, line-in}
 use Rattle.program.proofs.Walk.{NoneTo, way-rest, with-one, with-two}
 
 -- ---- tags and variables
-
-pub tag-is : (t : ℕ) (z : ℤ) (k : ℕ) → indexIn z (t + 1) ≡ At k → eqb t k ≡ eqZ (pos t) z
-tag-is t (pos j) k e = ap (eqb t) (sym (index-at (pos j) (t + 1) e .1))
-tag-is t (negsuc j) k e = cc (index-at (negsuc j) (t + 1) e .0)
-
-pub tag-not : (t : ℕ) (z : ℤ) → indexIn z (t + 1) ≡ Outside → false ≡ eqZ (pos t) z
-tag-not t (pos j) e = sym (ne-eqb t j (λ q. omega (lin, q, ltb-false j (t + 1) (index-out (pos j) (t + 1) e))))
-tag-not t (negsuc j) e = refl
 
 -- the tests of `iftag` on a place, in a store of k blocks
 module _ (P : Prog) (s : Store) (l : ℕ) (n : Num) (b o k : ℕ) (e : k ≡ length s) where

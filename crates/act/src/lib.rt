@@ -11,11 +11,10 @@ ghost use Rattle.rules.specs.Machine.{needPlace, storeAt, jumpOn, actSet, actPu
 ghost use Rattle.rules.specs.Machine.Tables.{storeOf, valsOf};
 ghost use Rattle.program.specs.Lines.{tablesOf};
 ghost use Rattle.program.specs.Nodes.{afterOf};
-use number::Index;
+use number::Sign;
 use rules::Act;
 use rules::Datum;
 use rules::Given;
-use rules::Limits;
 use rules::Num;
 
 // ---- jumps
@@ -66,10 +65,9 @@ fn act_ifimm(size: &[u32; 6], labels: &[u64; 6208], body: &[u32; 2560], l: usize
 fn is_tag(t: u32, n: Num) -> bool
     ensures { λ r. ⌜ r ≡ eqZ (pos t) (n .n) ⌝ }
 {
-    let k = t as usize;
-    match number::index_in(n, k + 1) {
-        Index::At(i) => k == i,
-        Index::Outside => false,
+    match number::sign_of(n) {
+        Sign::Plus(k) => t == k,
+        Sign::Minus(_) => false,
     }
 }
 
@@ -223,7 +221,7 @@ fn given(
 ) -> Given
     ensures { λ g. ⌜ ((R D : List ℕ) → g ≡ eval (rowsFrom (now (size .entry)) R) (storeOf (now (store .entry)) (now (heads .entry)) (now (cells .entry))) (valsOf (length (varsFrom (now (size .entry)) D)) (now (vals .entry))) (treeOf (treeAt (now (nodes .entry)) 16 k))) ⌝ }
 {
-    let f = eval::given_at(size, nodes, store, heads, cells, vals, Limits::DEPTH, k);
+    let f = eval::given_at(size, nodes, store, heads, cells, vals, k);
     f.given
 }
 
@@ -240,7 +238,7 @@ fn put_line(
 ) -> Act
     ensures { λ a. ⌜ ((R D : List ℕ) → a ≡ actPut (storeOf (now (store .entry)) (now (heads .entry)) (now (cells .entry))) m (eval (rowsFrom (now (size .entry)) R) (storeOf (now (store .entry)) (now (heads .entry)) (now (cells .entry))) (valsOf (length (varsFrom (now (size .entry)) D)) (now (vals .entry))) (treeOf (treeAt (now (nodes .entry)) 16 k))) (eval (rowsFrom (now (size .entry)) R) (storeOf (now (store .entry)) (now (heads .entry)) (now (cells .entry))) (valsOf (length (varsFrom (now (size .entry)) D)) (now (vals .entry))) (treeOf (treeAt (now (nodes .entry)) 16 (afterOf (treeAt (now (nodes .entry)) 16 k)))))) ⌝ }
 {
-    let f = eval::given_at(size, nodes, store, heads, cells, vals, Limits::DEPTH, k);
+    let f = eval::given_at(size, nodes, store, heads, cells, vals, k);
     let x = f.given;
     let next = f.next;
     let y = given(size, nodes, store, heads, cells, vals, next);

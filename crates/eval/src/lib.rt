@@ -231,16 +231,16 @@ fn leaf_at(size: &[u32; 6], nodes: &[u64; 4096], vals: &[u64; 32], at: usize) ->
     leaf(size, vals, op, a)
 }
 
-// The same as the walk, for an operand: most are numbers and variables, and these are answered in place, without a call that goes deeper.
+// What an operand gives. Most operands are numbers and variables: these are answered in place, without a call that goes deeper.
 fn operand(
     size: &[u32; 6],
     nodes: &[u64; 4096],
-    store: &[u32; 2],
-    heads: &[u32; 768],
-    cells: &[u64; 4352],
     vals: &[u64; 32],
     depth: usize,
     at: usize,
+    store: &[u32; 2],
+    heads: &[u32; 768],
+    cells: &[u64; 4352],
 ) -> Gave
     ensures { λ g. ⌜ ((R D : List ℕ) → g ≡ gaveAt (rowsFrom (now (size .entry)) R) (storeOf (now (store .entry)) (now (heads .entry)) (now (cells .entry))) (valsOf (length (varsFrom (now (size .entry)) D)) (now (vals .entry))) (now (nodes .entry)) depth at) ⌝ }
 {
@@ -248,19 +248,20 @@ fn operand(
         let g = leaf_at(size, nodes, vals, at);
         return gives(g, at + 1);
     }
-    given_at(size, nodes, store, heads, cells, vals, depth, at)
+    walk(size, nodes, vals, depth, at, store, heads, cells)
 }
 
 // What the expression at a node gives. Past the depth and past the last node nothing is there, and it is stuck.
-pub fn given_at(
+// What every expression needs comes first among the parameters, and is handed on in registers.
+fn walk(
     size: &[u32; 6],
     nodes: &[u64; 4096],
-    store: &[u32; 2],
-    heads: &[u32; 768],
-    cells: &[u64; 4352],
     vals: &[u64; 32],
     depth: usize,
     at: usize,
+    store: &[u32; 2],
+    heads: &[u32; 768],
+    cells: &[u64; 4352],
 ) -> Gave
     ensures { λ g. ⌜ ((R D : List ℕ) → g ≡ gaveAt (rowsFrom (now (size .entry)) R) (storeOf (now (store .entry)) (now (heads .entry)) (now (cells .entry))) (valsOf (length (varsFrom (now (size .entry)) D)) (now (vals .entry))) (now (nodes .entry)) depth at) ⌝ }
 {
@@ -279,15 +280,33 @@ pub fn given_at(
         let g = leaf(size, vals, op, a);
         return gives(g, first);
     }
-    let x = operand(size, nodes, store, heads, cells, vals, depth - 1, first);
+    let x = operand(size, nodes, vals, depth - 1, first, store, heads, cells);
     let v = x.given;
     let second = x.next;
     if n == 1 {
         let g = one_operand(size, store, heads, cells, op, a, v);
         return gives(g, second);
     }
-    let y = operand(size, nodes, store, heads, cells, vals, depth - 1, second);
+    let y = operand(size, nodes, vals, depth - 1, second, store, heads, cells);
     let u = y.given;
     let after = y.next;
     gives(two_operands(store, heads, op, v, u), after)
+}
+
+// What the expression of a line gives, at any node of the table, and the node after it: a number or a variable in place too, any other by the walk.
+pub fn given_at(
+    size: &[u32; 6],
+    nodes: &[u64; 4096],
+    store: &[u32; 2],
+    heads: &[u32; 768],
+    cells: &[u64; 4352],
+    vals: &[u64; 32],
+    at: usize,
+) -> Gave
+    ensures { λ g. ⌜ ((R D : List ℕ) → g ≡ gaveAt (rowsFrom (now (size .entry)) R) (storeOf (now (store .entry)) (now (heads .entry)) (now (cells .entry))) (valsOf (length (varsFrom (now (size .entry)) D)) (now (vals .entry))) (now (nodes .entry)) 16 at) ⌝ }
+{
+    if is_leaf(nodes, Limits::DEPTH, at) {
+        return gives(leaf_at(size, nodes, vals, at), at + 1);
+    }
+    walk(size, nodes, vals, Limits::DEPTH, at, store, heads, cells)
 }

@@ -1,22 +1,22 @@
--- The proof of the cycle of calls {given_at, operand}. The depth falls from a node to its operands; at one depth an operand comes before the walk of it.
+-- The proof of the cycle of calls {operand, walk}. The depth falls from a node to its operands; at one depth an operand comes before the walk of it.
 -- Assumes nothing.
 use native.Mathlib.Omega.{arith}
 use native.Mathlib.Nat.{pos-of-ne-zero}
-use mathlib.Core.Path.{refl, sym, _∙_}
+use mathlib.Core.Path.{sym, _∙_}
 use borrow.Author.Needs.{needs}
 use Rattle.rules.specs.Machine.{eval}
 use Rattle.program.proofs.Walk.{ends-deep, ends-past, ends-leaf, ends-one, ends-two}
 use Rattle.eval.specs.Walk.{form, gave, gaveAt}
-use Rattle.eval.proofs.Laws.{folds, tree-of, after-of}
+use Rattle.eval.proofs.Laws.{folds, leaf-ends, tree-of, after-of}
 use Prim.Native.Nat.{ℕ, _+_, _*_, _<_}
 use borrow.Fn.Kinds.{In}
 use borrow.Fn.PlainCycle.{Measures, is, falls, and}
-use Rattle.eval.proofs.given_at.Reads as given-at
-use Rattle.eval.proofs.given_at.Kinds as given-at-kinds
-use Rattle.eval.proofs.+given_at+operand.Lts-given_at as given-at-lts
+use Rattle.eval.proofs.walk.Reads as walk
+use Rattle.eval.proofs.walk.Kinds as walk-kinds
+use Rattle.eval.proofs.+operand+walk.Lts-walk as walk-lts
 use Rattle.eval.proofs.operand.Reads as operand
 use Rattle.eval.proofs.operand.Kinds as operand-kinds
-use Rattle.eval.proofs.+given_at+operand.Lts-operand as operand-lts
+use Rattle.eval.proofs.+operand+walk.Lts-operand as operand-lts
 use Rattle.program.proofs.argument.Reads as argument-reads
 use Rattle.program.proofs.operation.Reads as operation-reads
 use Rattle.program.proofs.operands.Reads as operands-reads
@@ -26,20 +26,20 @@ use Rattle.eval.proofs.leaf_at.Reads as leaf-at-reads
 use Rattle.eval.proofs.one_operand.Reads as one-operand-reads
 use Rattle.eval.proofs.two_operands.Reads as two-operands-reads
 use Rattle.eval.proofs.gives.Reads as gives-reads
-use Rattle.eval.proofs.+given_at+operand.{statement}
-use Rattle.eval.proofs.+given_at+operand.Tie.{close}
+use Rattle.eval.proofs.+operand+walk.{statement}
+use Rattle.eval.proofs.+operand+walk.Tie.{close}
 
-abbrev μ-given-at : Measures 6 given-at-kinds.ps ℕ
-μ-given-at κs a = a .1 .1 .1 .1 .1 .1 .0 * 2
+abbrev μ-walk : Measures 6 walk-kinds.ps ℕ
+μ-walk κs a = a .1 .1 .1 .0 * 2
 
 abbrev μ-operand : Measures 6 operand-kinds.ps ℕ
-μ-operand κs a = a .1 .1 .1 .1 .1 .1 .0 * 2 + 1
+μ-operand κs a = a .1 .1 .1 .0 * 2 + 1
 
-abbrev given-at-at : ℕ → In 6 given-at-kinds.ps
-given-at-at t = and 6 given-at-kinds.ps (is 6 given-at-kinds.ps μ-given-at t) given-at.Pre
+abbrev walk-at : ℕ → In 6 walk-kinds.ps
+walk-at t = and 6 walk-kinds.ps (is 6 walk-kinds.ps μ-walk t) walk.Pre
 
-abbrev given-at-below : ℕ → In 6 given-at-kinds.ps
-given-at-below t = and 6 given-at-kinds.ps (falls 6 given-at-kinds.ps _<_ μ-given-at t) given-at.Pre
+abbrev walk-below : ℕ → In 6 walk-kinds.ps
+walk-below t = and 6 walk-kinds.ps (falls 6 walk-kinds.ps _<_ μ-walk t) walk.Pre
 
 abbrev operand-at : ℕ → In 6 operand-kinds.ps
 operand-at t = and 6 operand-kinds.ps (is 6 operand-kinds.ps μ-operand t) operand.Pre
@@ -47,14 +47,25 @@ operand-at t = and 6 operand-kinds.ps (is 6 operand-kinds.ps μ-operand t) opera
 abbrev operand-below : ℕ → In 6 operand-kinds.ps
 operand-below t = and 6 operand-kinds.ps (falls 6 operand-kinds.ps _<_ μ-operand t) operand.Pre
 
-pub +given-at+operand-spec : {M : Type 1} → statement M
+pub +operand+walk-spec : {M : Type 1} → statement M
 unfolding gaveAt eval
-+given-at+operand-spec =
-    close μ-given-at μ-operand
-    (λ t. given-at-lts.spec
++operand+walk-spec =
+    close μ-operand μ-walk
+    (λ t. operand-lts.spec
+    (is-leaf-reads.Asked, is-leaf-reads.Learnt, leaf-at-reads.Asked, leaf-at-reads.Learnt, gives-reads.Asked, gives-reads.Learnt, walk-below t, walk.Post)
+    (operand-at t)
+    operand.Post
+    (λ c κs. search needs)  -- is-leaf-requires
+    (λ c κs. c .before .is-leaf .ensures (c .if1 .taken) .2)  -- leaf-at-requires
+    (λ c. omega (arith, c .before .before .is-leaf .ensures (c .before .if1 .taken) .1))  -- add-gives
+    (λ c κs. search needs)  -- gives-requires
+    (λ c R D. leaf-ends _ _ _ _ _ _ _ _ (c .before .before .before .is-leaf .ensures (c .before .before .if1 .taken)) (c .gives .ensures) (c .before .leaf-at .ensures _ _ D))  -- returns
+    (λ c κs. (omega (arith, c .before .before .pre .0), tt))  -- walk-requires
+    (λ c. c .walk .ensures))  -- returns-2
+    λ t. walk-lts.spec
     (gives-reads.Asked, gives-reads.Learnt, operation-reads.Asked, operation-reads.Learnt, argument-reads.Asked, argument-reads.Learnt, operands-reads.Asked, operands-reads.Learnt, leaf-reads.Asked, leaf-reads.Learnt, operand-below t, operand.Post, one-operand-reads.Asked, one-operand-reads.Learnt, two-operands-reads.Asked, two-operands-reads.Learnt)
-    (given-at-at t)
-    given-at.Post
+    (walk-at t)
+    walk.Post
     (λ c κs. search needs)  -- gives-requires
     (λ c R D. c .gives .ensures ∙ ends-deep (eval _ _ _) gave _ _ _ (c .before .if1 .taken))  -- returns
     (λ c κs. search needs)  -- gives-requires-2
@@ -75,15 +86,4 @@ unfolding gaveAt eval
     (λ c κs. (omega (arith, pos-of-ne-zero (c .before .before .before .before .before .before .before .if1 .left), c .before .before .before .before .before .before .before .before .pre .0), tt))  -- operand-requires-2
     (λ c κs. ((λ p. c .before .before .before .if3 .left (c .before .before .before .before .operands .ensures ∙ p)), (λ p. c .before .if4 .left (c .before .before .before .before .operands .ensures ∙ p))))  -- two-operands-requires
     (λ c κs. search needs)  -- gives-requires-5
-    (λ c R D. c .gives5 .ensures ∙ ends-two (eval _ _ _) gave _ _ _ (form _ _ _) (folds _ _ _) _ _ _ (c .before .before .before .before .before .before .before .before .before .before .if1 .left) (c .before .before .before .before .before .before .before .before .before .if2 .left) (c .before .before .before .before .before .before .before .before .operation .ensures) (c .before .before .before .before .before .before .before .argument .ensures) (c .before .before .before .before .before .before .operands .ensures) _ _ _ _ _ (c .before .before .before .before .before .if3 .left) (c .before .before .before .if4 .left) (tree-of _ _ _ _ _ _ _ (c .before .before .before .before .operand .ensures R D)) (after-of _ _ _ _ _ _ _ (c .before .before .before .before .operand .ensures R D)) (tree-of _ _ _ _ _ _ _ (c .before .before .operand2 .ensures R D)) (after-of _ _ _ _ _ _ _ (c .before .before .operand2 .ensures R D)) (c .before .two-operands .ensures _ _ _ _ _)))  -- returns-5
-    λ t. operand-lts.spec
-    (is-leaf-reads.Asked, is-leaf-reads.Learnt, leaf-at-reads.Asked, leaf-at-reads.Learnt, gives-reads.Asked, gives-reads.Learnt, given-at-below t, given-at.Post)
-    (operand-at t)
-    operand.Post
-    (λ c κs. search needs)  -- is-leaf-requires
-    (λ c κs. c .before .is-leaf .ensures (c .if1 .taken) .2)  -- leaf-at-requires
-    (λ c. omega (arith, c .before .before .is-leaf .ensures (c .before .if1 .taken) .1))  -- add-gives
-    (λ c κs. search needs)  -- gives-requires
-    (λ c R D. let h = c .before .before .before .is-leaf .ensures (c .before .before .if1 .taken) in c .gives .ensures ∙ ends-leaf (eval _ _ _) gave _ _ _ (form _ _ _) (folds _ _ _) _ _ _ (h .0) (h .1) refl refl refl _ _ _ (h .2) (c .before .leaf-at .ensures _ _ D))  -- returns
-    (λ c κs. (omega (arith, c .before .before .pre .0), tt))  -- given-at-requires
-    (λ c. c .given-at .ensures)  -- returns-2
+    (λ c R D. c .gives5 .ensures ∙ ends-two (eval _ _ _) gave _ _ _ (form _ _ _) (folds _ _ _) _ _ _ (c .before .before .before .before .before .before .before .before .before .before .if1 .left) (c .before .before .before .before .before .before .before .before .before .if2 .left) (c .before .before .before .before .before .before .before .before .operation .ensures) (c .before .before .before .before .before .before .before .argument .ensures) (c .before .before .before .before .before .before .operands .ensures) _ _ _ _ _ (c .before .before .before .before .before .if3 .left) (c .before .before .before .if4 .left) (tree-of _ _ _ _ _ _ _ (c .before .before .before .before .operand .ensures R D)) (after-of _ _ _ _ _ _ _ (c .before .before .before .before .operand .ensures R D)) (tree-of _ _ _ _ _ _ _ (c .before .before .operand2 .ensures R D)) (after-of _ _ _ _ _ _ _ (c .before .before .operand2 .ensures R D)) (c .before .two-operands .ensures _ _ _ _ _))  -- returns-5
