@@ -16,7 +16,6 @@ use Rattle.rules.specs.declared.Act.the-variants.{Stuck}
 use Rattle.rules.specs.Numbers.{eqZ, numCode}
 use Rattle.rules.specs.Program.{Prog, Stmt, badS}
 use Rattle.rules.specs.View.{treeOf, treeAt, Way, noW, wayOf, stmtOf, stmtFrom, rowsFrom, varsFrom, bodyFrom, program}
-use Rattle.rules.specs.Laws.Lists.{tab-length}
 use Rattle.rules.specs.Machine.{Store, tagIn, evVar, eval, jumpOn, actSet, actPut, actIf, actIfimm, actIftag, actIfint, actReturn, act, decide}
 use Rattle.rules.specs.Machine.Tables.{storeOf, valsOf}
 use Rattle.program.specs.declared.Stored.{Stored}
@@ -40,10 +39,6 @@ module _ (P : Prog) (s : Store) (l : ℕ) (n : Num) (b o k : ℕ) (e : k ≡ len
   pub tag-inside : (o ≡ 0 → ⊥) → Stuck ≡ actIftag P s l n (Has (Place b o))
   unfolding actIftag
   tag-inside z = rw (ne-eqb o 0 z)
-
-pub vals-length : (n : ℕ) (W : List ℕ) → length (valsOf n W) ≡ n
-unfolding valsOf
-vals-length n W = tab-length n _
 
 -- ---- the line by its kind
 

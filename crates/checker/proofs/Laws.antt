@@ -1,5 +1,5 @@
 -- Checking, way by way: refused before the types, by a type, by the last line, or not at all. Assumes nothing.
-use borrow.Author.Tests.{ne-eqb, eq-eqb, eqb-false, eqb-true}
+use borrow.Author.Tests.{ne-eqb, eq-eqb, eqb-false}
 use Rattle.rules.specs.Prelude.{ℕ, List, Bool, true, false, _≡_, refl, sym, ap, _∙_, subst}
 use Rattle.rules.specs.declared.Answer.{Answer}
 use Rattle.rules.specs.declared.Verdict.{Verdict}
@@ -17,6 +17,7 @@ use Rattle.rules.specs.Laws.Stages.{first-plain}
 use Rattle.rules.specs.Laws.Accepts.{refused-tables, accepted-tables, verdict-plain}
 use Rattle.program.specs.Lines.{tablesOf}
 use Rattle.reader.specs.Read.{Holds}
+use Rattle.reader.proofs.Laws.{tables-are}
 use Rattle.glue.specs.Named.{namedOf, readNamed}
 use Rattle.body.specs.Lines.{typesIn}
 use Rattle.body.specs.There.{types-is}
@@ -63,9 +64,6 @@ tables-refused s n = rw (ne-eqb (readNamed s .answer .number) 0 n)
 -- ---- the answer and the tables
 
 module _ (Z N R D L B : List ℕ) where
-  held : (o : TextOut) (a : Answer) → Holds o a Z N R D L B → tablesOf Z N R D L B ≡ o .tables
-  held o a h = λ i. record { size = h .size i; nodes = h .nodes i; rows = h .rows i; vars = h .vars i; labels = h .labels i; body = h .body i }
-
   says : (c : Checked) (v : Verdict) → v ≡ caseOf (c .verdict) → tablesOf Z N R D L B ≡ c .tables → Says c v Z N R D L B
   says c v e h =
       record {
@@ -95,7 +93,7 @@ module _ (s : List ℕ) (a : Answer) (Z N R D L B : List ℕ) (h : Holds (readNa
   by-names n = grouped s ∙ ap (λ (x : Answer). andThen x (later (readText s))) (sym (h .answer)) ∙ stops a (later (readText s)) n
 
   pub as-cleared : (a .number ≡ 0 → ⊥) → tablesOf Z N R D L B ≡ zeros
-  as-cleared n = held Z N R D L B (readNamed s) a h ∙ tables-refused s (subst (λ (x : Answer). x .number ≡ 0 → ⊥) (h .answer) n)
+  as-cleared n = tables-are h ∙ tables-refused s (subst (λ (x : Answer). x .number ≡ 0 → ⊥) (h .answer) n)
 
   module _ (z : a .number ≡ 0) where
     abbrev P : Prog
@@ -105,7 +103,7 @@ module _ (s : List ℕ) (a : Answer) (Z N R D L B : List ℕ) (h : Holds (readNa
     named = subst (λ (x : Answer). x .number ≡ 0) (h .answer) z
 
     pub as-read : tablesOf Z N R D L B ≡ readText s .tables
-    as-read = held Z N R D L B (readNamed s) a h ∙ tables-pass s named
+    as-read = tables-are h ∙ tables-pass s named
 
     on : checked s .verdict ≡ andThen (types P) (λ _. ends P)
     unfolding later

@@ -7,7 +7,6 @@ use native.Mathlib.Decide.{decLt}
 use lib.ListN.{length, getD, set, replicate, length-set}
 use lib.Seq.{getD-set-same, getD-set-other, set-out}
 use Rattle.rules.specs.declared.Entry.{Entry}
-use Rattle.rules.specs.declared.Env.{Env}
 use Rattle.rules.specs.Program.{noEntry}
 use Rattle.rules.specs.View.{tab, boxedCode, offsetCode, tagCode, entryFrom, labelFrom}
 use Rattle.rules.specs.Text.Layout.{cell, labelWidth}

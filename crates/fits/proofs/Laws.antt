@@ -17,7 +17,7 @@ use Rattle.rules.specs.Machine.Tables.{storeOf, valsOf}
 use Rattle.rules.specs.Fits.{fitsPlace, fits, rightShape, cellsFit, blockNumber, argNumbers}
 use Rattle.rules.specs.Store.Fill.{StoreTables}
 use Rattle.rules.specs.Store.{storeFits}
-use Rattle.rules.specs.Laws.Lists.{tab-length}
+use Rattle.rules.specs.Sound.StepTables.{vals-length}
 use Rattle.table.proofs.Passes.{left-more, left-none, all-on, all-no, first-append, then-on, then-no}
 
 -- ---- data
@@ -81,10 +81,6 @@ module _ (ρ : Rows) (s : Store) (k : ℕ) (b : Bool) (eb : b ≡ rightShape ρ 
     block-right q = rw (sym eb, z, sym ed, q)
 
 -- ---- arguments
-
-vals-length : (n : ℕ) (W : List ℕ) → length (valsOf n W) ≡ n
-unfolding valsOf
-vals-length n W = tab-length n _
 
 pub arg-is : (ρ : Rows) (s : Store) (D : List Var) (W : List ℕ) (v n : ℕ) (k : Kind) (g : Given) → n ≡ length D → k ≡ kindAt D v → g ≡ evVar (valsOf n W) v →
     fits ρ s k loosest g ≡ fits ρ s (kindAt D v) loosest (evVar (valsOf (length D) W) v)

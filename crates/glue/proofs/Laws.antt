@@ -10,6 +10,7 @@ use Rattle.rules.specs.Names.{names}
 use Rattle.rules.specs.Laws.Tests.{by-when}
 use Rattle.program.specs.Lines.{tablesOf}
 use Rattle.reader.specs.Read.{Holds}
+use Rattle.reader.proofs.Laws.{tables-are}
 use Rattle.glue.specs.Named.{namedOf, readNamed, refused, by-reading, by-names, by-neither}
 
 -- ---- a text that is refused leaves nothing
@@ -35,10 +36,6 @@ text-clear s = by-when Clear (ltb (limits .bytes) (length s)) _ _ (λ z h. refl)
 -- ---- the ways
 
 module _ (Z N R D L B : List ℕ) where
-  -- six tables as one
-  held : (o : TextOut) (a : Answer) → Holds o a Z N R D L B → tablesOf Z N R D L B ≡ o .tables
-  held o a h = λ i. record { size = h .size i; nodes = h .nodes i; rows = h .rows i; vars = h .vars i; labels = h .labels i; body = h .body i }
-
   holds : (o : TextOut) (a : Answer) → a ≡ o .answer → tablesOf Z N R D L B ≡ o .tables → Holds o a Z N R D L B
   holds o a e h =
       record {
@@ -60,11 +57,11 @@ module _ (s : List ℕ) (a : Answer) (Z N R D L B : List ℕ) (h : Holds (readTe
   text-refused n = by-reading (readText s) a (h .answer) n
 
   pub as-cleared : (a .number ≡ 0 → ⊥) → tablesOf Z N R D L B ≡ zeros
-  as-cleared n = held Z N R D L B (readText s) a h ∙ text-clear s (subst (λ (x : Answer). x .number ≡ 0 → ⊥) (h .answer) n)
+  as-cleared n = tables-are h ∙ text-clear s (subst (λ (x : Answer). x .number ≡ 0 → ⊥) (h .answer) n)
 
   module _ (z : a .number ≡ 0) (b : Answer) (e : b ≡ names (program (tablesOf Z N R D L B))) where
     named-as-read : b ≡ names (program (readText s .tables))
-    named-as-read = e ∙ ap (λ (t : Tables). names (program t)) (held Z N R D L B (readText s) a h)
+    named-as-read = e ∙ ap (λ (t : Tables). names (program t)) (tables-are h)
 
     pub name-refused : (b .number ≡ 0 → ⊥) → namedOf (readText s) ≡ refused b
     name-refused n = by-names (readText s) a b (h .answer) z named-as-read n
@@ -73,4 +70,4 @@ module _ (s : List ℕ) (a : Answer) (Z N R D L B : List ℕ) (h : Holds (readTe
     unfolding readNamed
     neither-refused n =
         let w = by-neither (readText s) a b (h .answer) z named-as-read n in
-        holds Z N R D L B (namedOf (readText s)) b (sym (ap (λ (o : TextOut). o .answer) w)) (held Z N R D L B (readText s) a h ∙ sym (ap (λ (o : TextOut). o .tables) w))
+        holds Z N R D L B (namedOf (readText s)) b (sym (ap (λ (o : TextOut). o .answer) w)) (tables-are h ∙ sym (ap (λ (o : TextOut). o .tables) w))

@@ -1,7 +1,6 @@
 -- A text that was read, and then held against its names: the answer is that of the earlier stage that refuses, and the tables are zero on a refusal. Assumes nothing.
-use lib.Dec.{eqb}
 use borrow.Author.Tests.{ne-eqb, eq-eqb}
-use Rattle.rules.specs.Prelude.{ℕ, List, _≡_, refl, _∙_, ap}
+use Rattle.rules.specs.Prelude.{ℕ, List, _≡_}
 use Rattle.rules.specs.declared.Answer.{Answer}
 use Rattle.rules.specs.When.{when}
 use Rattle.rules.specs.Answers.{passes, andThen}

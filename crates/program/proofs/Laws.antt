@@ -1,19 +1,17 @@
 -- What the parts of a viewed program are, as numbers of its tables; and what cleared tables mean. Assumes nothing.
 use native.Mathlib.Omega.{arith as lin}
 use native.Mathlib.Decide.{decLt}
-use native.Mathlib.Numerals.{sub-one}
-use borrow.Author.Tests.{lt-ltb, le-ltb}
 use mathlib.Core.Path.{_≡_, refl, sym, ap, _∙_}
 use mathlib.Core.List.{List, [], _∷_}
-use Prim.Native.Nat.{ℕ, zero, suc, _+_, _-_, _*_, _/_, _%_, _<_, _≤_}
+use Prim.Native.Nat.{ℕ, _+_, _-_, _*_, _<_, _≤_}
 use lib.ListN.{length, getD, drop, replicate, List·getD-eq-default}
 use Rattle.rules.specs.declared.Psi.the-variants.{Upto}
 use Rattle.rules.specs.declared.Kind.the-variants.{Cint}
 use Rattle.rules.specs.Limits.{limits}
-use Rattle.rules.specs.Program.{Row, Var, Label, Rows, bad, badS, noEntry, rowAt, psiOf, prodsOf, fieldsOf, fieldOf, kindAt, labelAt}
+use Rattle.rules.specs.Program.{Row, Var, Label, Rows, badS, noEntry, rowAt, psiOf, prodsOf, fieldsOf, fieldOf, kindAt, labelAt}
 use Rattle.rules.specs.Environments.{noVar, labelEnv}
 use Rattle.rules.specs.Text.Layout.{cell, rowWidth, varWidth, labelWidth, Tables, zeros}
-use Rattle.rules.specs.View.{tab, upTo, psiCode, productFrom, rowFrom, rowsFrom, kindCode, varFrom, varsFrom, entryFrom, labelFrom, labelsFrom, formOf, walked, treeNode, treeAt, bodyFrom, stmtFrom, stmtOf, wayOf, program}
+use Rattle.rules.specs.View.{tab, upTo, psiCode, productFrom, rowFrom, rowsFrom, kindCode, varFrom, varsFrom, entryFrom, labelFrom, labelsFrom, bodyFrom, stmtFrom, stmtOf, wayOf, program}
 use Rattle.rules.specs.Laws.Lists.{tab-length, tab-in, upTo-le}
 use Rattle.table.proofs.Laws.{below, tab-drop, tab-out}
 use Rattle.program.specs.Labels.{envFrom}
@@ -43,9 +41,6 @@ module _ (Z : List ℕ) where
 
   pub vars-small : (D : List ℕ) → length (varsFrom Z D) ≤ 32
   vars-small D = rw (var-count D) (upTo-le 32 _)
-
-  pub labels-small : (L : List ℕ) → length (labelsFrom Z L) ≤ 64
-  labels-small L = rw (label-count L) (upTo-le 64 _)
 
   pub lines-small : (N B : List ℕ) → length (bodyFrom Z N B) ≤ 512
   lines-small N B = rw (line-count N B) (upTo-le 512 _)
@@ -92,10 +87,6 @@ module _ (Z R : List ℕ) (r : ℕ) where
   pub psi-in : r < length (rowsFrom Z R) → psiOf (rowsFrom Z R) r ≡ psiCode (cell R rowWidth r 0)
   unfolding psiOf rowFrom
   psi-in h = ap (λ (x : Row). x .psi) (row-in h)
-
-  pub row-drop : r < length (rowsFrom Z R) → drop r (rowsFrom Z R) ≡ rowFrom R r ∷ drop (r + 1) (rowsFrom Z R)
-  unfolding rowsFrom
-  row-drop h = tab-drop _ (rowFrom R) r (rowFrom R r) (below (row-count Z R) h)
 
   pub products-in : r < length (rowsFrom Z R) → rowAt (rowsFrom Z R) r .products ≡ tab (upTo (limits .products) (cell R rowWidth r 1)) (productFrom R r)
   unfolding rowFrom
@@ -148,10 +139,6 @@ module _ (Z D : List ℕ) (v : ℕ) where
   pub var-out : length (varsFrom Z D) ≤ v → getD (varsFrom Z D) v noVar ≡ noVar
   var-out h = List·getD-eq-default (varsFrom Z D) noVar h
 
-  pub var-drop : v < length (varsFrom Z D) → drop v (varsFrom Z D) ≡ varFrom D v ∷ drop (v + 1) (varsFrom Z D)
-  unfolding varsFrom
-  var-drop h = tab-drop _ (varFrom D) v (varFrom D v) (below (var-count Z D) h)
-
   pub kind-in : v < length (varsFrom Z D) → kindAt (varsFrom Z D) v ≡ kindCode (cell D varWidth v 0)
   unfolding kindAt varFrom
   kind-in h = ap (λ (x : Var). x .kind) (var-in h)
@@ -198,17 +185,6 @@ unfolding program labelEnv
 label-env t l h = env-in (t .size) (t .labels) l (length (varsFrom (t .size) (t .vars))) h
 
 -- ---- nodes: a tree with d levels left
-
-pub node-in : (N : List ℕ) (d k op a : ℕ) → (d ≡ 0 → ⊥) → k < 4096 → op ≡ getD N k 0 / 4294967296 → a ≡ getD N k 0 % 4294967296 →
-    treeAt N d k ≡ treeNode (treeAt N (d - 1)) k (formOf op) a
-unfolding treeAt
-node-in N zero k op a z h e f = absurd (z refl)
-node-in N (suc d) k op a z h e f = rw (e, f, lt-ltb k 4096 h, sub-one (suc d))
-
-pub node-out : (N : List ℕ) (d k : ℕ) → (d ≡ 0 → ⊥) → 4096 ≤ k → treeAt N d k ≡ walked bad k
-unfolding treeAt
-node-out N zero k z h = absurd (z refl)
-node-out N (suc d) k z h = rw (le-ltb k 4096 h)
 
 -- ---- lines
 

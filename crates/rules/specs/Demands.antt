@@ -1,4 +1,4 @@
--- The demands, as short statements that are proved. Demand 3 stands here; demands 1 and 2 speak of code, and come with it. Assumes nothing.
+-- Demand 3, of the definitions, from the bytes of two texts. The three demands of the code stand in crates/demands/specs/Demands.antt, and rest on this one. Assumes nothing.
 use Rattle.rules.specs.Prelude.{ℕ, List, _≡_, Stuck}
 use Rattle.rules.specs.Answers.{accepted}
 use Rattle.rules.specs.Program.{Prog}

@@ -1,5 +1,5 @@
 -- Limits that take a long text. Assumes nothing.
-use Rattle.rules.specs.Prelude.{ℕ, List, [], _∷_, _++_, _≡_, refl}
+use Rattle.rules.specs.Prelude.{List, [], _∷_, _++_, _≡_, refl}
 use Rattle.rules.specs.Bytes.{bytes}
 use Rattle.rules.specs.Run.{runs}
 use Rattle.rulings.specs.Cases.{Case, glue, times, differing}

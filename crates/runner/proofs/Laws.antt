@@ -14,9 +14,9 @@ use Rattle.rules.specs.Text.Layout.{Tables}
 use Rattle.rules.specs.Text.Words.{agreed}
 use Rattle.rules.specs.Program.{Prog}
 use Rattle.rules.specs.View.{program}
-use Rattle.rules.specs.Check.{Checked, checked, verdict}
-use Rattle.rules.specs.Machine.Tables.{MTables, datumCode, runT, runWithin}
-use Rattle.rules.specs.Store.{StoreOut, readStore}
+use Rattle.rules.specs.Check.{checked, verdict}
+use Rattle.rules.specs.Machine.Tables.{datumCode, runT, runWithin}
+use Rattle.rules.specs.Store.{readStore}
 use Rattle.rules.specs.Run.{Result, refused, resultOf, runStore, runChecked, glueBytes}
 use Rattle.rules.specs.Laws.Told.{told-verdict, told-store}
 use Rattle.program.specs.Lines.{tablesOf}

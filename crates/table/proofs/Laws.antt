@@ -3,9 +3,9 @@ use native.Mathlib.Omega.{arith as lin}
 use native.Mathlib.Decide.{decLt}
 use native.Mathlib.Numerals.{add-one}
 use mathlib.Core.Path.{_≡_, sym, ap, _∙_}
-use mathlib.Core.List.{[], _∷_}
+use mathlib.Core.List.{_∷_}
 use Prim.Native.Nat.{ℕ, suc, _+_, _<_, _≤_, min}
-use lib.ListN.{getD, drop, drop-of-length-le, List·getD-eq-default}
+use lib.ListN.{getD, drop, List·getD-eq-default}
 use lib.Seq.{drop-cons}
 use Rattle.rules.specs.View.{tab}
 use Rattle.rules.specs.Laws.Lists.{tab-length, tab-in}
@@ -36,6 +36,3 @@ module _ {A : Type 0} (n : ℕ) (f : ℕ → A) (i : ℕ) where
   tab-drop d h =
       rw (add-one i)
       (drop-cons (tab n f) i d (rw (tab-length n f) h) ∙ ap (λ (x : A). x ∷ drop (suc i) (tab n f)) (tab-in n f i d h))
-
-  pub tab-done : n ≤ i → drop i (tab n f) ≡ []
-  tab-done h = drop-of-length-le (tab n f) {i = i} (rw (tab-length n f) h)

@@ -3,7 +3,7 @@ use Prim.Native.Nat.{zero-le}
 use native.Mathlib.Omega.{arith}
 use lib.Dec.{T}
 use borrow.Author.Tests.{leb-true, ltb-false, eqb-true, eqb-false}
-use Rattle.rules.specs.Prelude.{ℕ, zero, suc, _+_, _*_, _<_, _≤_, true, _||_, List, _≡_, refl, sym, subst, ltb, leb, eqb, length}
+use Rattle.rules.specs.Prelude.{ℕ, zero, suc, _+_, _*_, _<_, _≤_, true, _||_, List, _≡_, sym, subst, ltb, leb, eqb, length}
 use Rattle.rules.specs.declared.Reading.{Reading}
 use Rattle.rules.specs.declared.Reading.the-variants.{Got, Bad}
 use Rattle.rules.specs.declared.StoreCount.{StoreCount}

@@ -1,5 +1,4 @@
 -- What was written is what the rules print, and lies within the table. Assumes nothing.
-use native.Mathlib.Omega.{arith as lin}
 use borrow.Table.Elements.{take-le}
 use Rattle.io.specs.Counts.{Counts}
 use Rattle.rules.specs.Prelude.{ℕ, _≤_, List, _≡_, sym, ap, subst, _∙_, length, take}

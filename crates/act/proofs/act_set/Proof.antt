@@ -1,4 +1,4 @@
-use Rattle.act.proofs.Laws.{vals-length}
+use Rattle.rules.specs.Sound.StepTables.{vals-length}
 use Rattle.rules.specs.Machine.{actSet}
 use mathlib.Core.Path.{_∙_, refl, sym}
 use borrow.Author.Needs.{needs}

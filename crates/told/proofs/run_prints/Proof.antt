@@ -1,6 +1,5 @@
 use mathlib.Core.Path.{ap, _∙_}
 use Rattle.rules.specs.declared.Answer.{Answer}
-use Rattle.rules.specs.Run.{Result}
 use Rattle.told.proofs.Laws.{run-shown}
 use borrow.Author.Needs.{needs}
 use Rattle.told.proofs.run_prints.Statement.{statement}
