@@ -2,7 +2,7 @@
 ghost use mathlib.Core.Path.{_≡_};
 ghost use lib.ListN.{getD};
 ghost use Rattle.rules.specs.When.{need};
-ghost use Rattle.rules.specs.Program.{entry, noEntry, isZero};
+ghost use Rattle.rules.specs.Program.{entry, noEntry, zeroI, isZero};
 ghost use Rattle.rules.specs.View.{boxedCode, offsetCode, tagCode};
 ghost use Rattle.rules.specs.Typing.{intEntry, immEntry};
 ghost use Rattle.rules.specs.Environments.{withEntry, withBoxed, withTag, coversBoxed, coversOffset, coversTag, coversEntry};
@@ -133,26 +133,29 @@ pub fn with_tag(e: Entry, n: Num) -> Entry
     }
 }
 
+// `B,0,T`
+fn at_zero(boxed: Boxed, tag: Tag) -> Entry
+    ensures { λ r. ⌜ r ≡ entry boxed zeroI tag ⌝ }
+{
+    Entry {
+        boxed: boxed,
+        offset: Offset::Known(Num { n: 0 }),
+        tag: tag,
+    }
+}
+
 // `any,0,T`
 pub fn int_entry(t: Tag) -> Entry
     ensures { λ r. ⌜ r ≡ intEntry t ⌝ }
 {
-    Entry {
-        boxed: Boxed::Either,
-        offset: Offset::Known(Num { n: 0 }),
-        tag: t,
-    }
+    at_zero(Boxed::Either, t)
 }
 
 // `imm,0,T`
 pub fn imm_entry(t: Tag) -> Entry
     ensures { λ r. ⌜ r ≡ immEntry t ⌝ }
 {
-    Entry {
-        boxed: Boxed::Imm,
-        offset: Offset::Known(Num { n: 0 }),
-        tag: t,
-    }
+    at_zero(Boxed::Imm, t)
 }
 
 pub fn zero_offset(i: Offset) -> bool

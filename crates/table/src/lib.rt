@@ -1,4 +1,5 @@
 // Tables of numbers, whatever they hold: one number read or written, and a count. Past a table is 0, and a place past it writes nothing.
+// The two widths name the place apart, `i` and `k`, so that a must-fail edit can name a line of either.
 ghost use mathlib.Core.Path.{_≡_};
 ghost use Prim.Native.Nat.{min};
 ghost use lib.ListN.{getD, set};
@@ -10,10 +11,10 @@ pub fn at32(t: &[u32], i: usize) -> u32
     if i < t.len() { t[i] } else { 0 }
 }
 
-pub fn at64(t: &[u64], i: usize) -> u64
-    ensures { λ r. ⌜ r ≡ getD (now (t .entry)) i 0 ⌝ }
+pub fn at64(t: &[u64], k: usize) -> u64
+    ensures { λ r. ⌜ r ≡ getD (now (t .entry)) k 0 ⌝ }
 {
-    if i < t.len() { t[i] } else { 0 }
+    if k < t.len() { t[k] } else { 0 }
 }
 
 pub fn put32(t: &mut [u32], i: usize, x: u32)
@@ -24,11 +25,11 @@ pub fn put32(t: &mut [u32], i: usize, x: u32)
     }
 }
 
-pub fn put64(t: &mut [u64], i: usize, x: u64)
-    ensures { λ u. ⌜ now (t .exit) ≡ set (now (t .entry)) i x ⌝ }
+pub fn put64(t: &mut [u64], k: usize, x: u64)
+    ensures { λ u. ⌜ now (t .exit) ≡ set (now (t .entry)) k x ⌝ }
 {
-    if i < t.len() {
-        t[i] = x;
+    if k < t.len() {
+        t[k] = x;
     }
 }
 
