@@ -1,15 +1,18 @@
--- The contracts of names, reader, glue, tally, fits and store determine. Assumes nothing.
+-- The contracts of names, once, reader, glue, tally, fits and store determine. Assumes nothing.
 use Rattle.rules.specs.Prelude.{ℕ, List, [], _≡_, refl, ap}
 use Rattle.rules.specs.declared.Answer.{Answer}
 use Rattle.rules.specs.Text.{TextOut}
 use Rattle.rules.specs.Store.Text.{Counted, countedOut}
 use Rattle.rules.specs.Store.{StoreOut}
+use Rattle.rules.specs.declared.Filling.{Filling}
+use Rattle.once.specs.Once.{Onced, once as made}
 use Rattle.reader.specs.Read.{Holds}
 use Rattle.tally.specs.declared.Tally.{Tally}
 use Rattle.store.specs.Says.{Says}
-use Rattle.determined.specs.Determined.{Determined, one, result, skip}
+use Rattle.determined.specs.Determined.{Determined, one, result, both, skip}
 use Rattle.determined.specs.Tables.{Six, six}
 use Rattle.names.proofs as names
+use Rattle.once.proofs as once
 use Rattle.reader.proofs as reader
 use Rattle.glue.proofs as glue
 use Rattle.tally.proofs as tally
@@ -34,6 +37,23 @@ tallyOf (countedOut a c) = record { answer = a; count = c }
 
 pub names-named : Determined names.named.ended names.named.Reads.Learnt
 names-named κs a x y s t = result
+
+-- ---- once
+
+-- what `once` was made of
+abbrev fillingIn : Onced → Filling
+fillingIn (made f N B) = f
+
+abbrev nodesIn : Onced → List ℕ
+nodesIn (made f N B) = N
+
+abbrev bodyIn : Onced → List ℕ
+bodyIn (made f N B) = B
+
+pub once-line-once : Determined once.line_once.ended once.line_once.Reads.Learnt
+once-line-once κs a x y s t h k =
+    let e = one h k in
+    (ap fillingIn e, skip (skip (skip (skip (skip (both (ap nodesIn e) (both (ap bodyIn e) refl)))))))
 
 -- ---- reader
 

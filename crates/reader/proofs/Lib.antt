@@ -1,4 +1,5 @@
 -- What the proofs of several functions use.
 pub mod Exprs
 pub mod Laws
+mod Once
 pub mod Ways

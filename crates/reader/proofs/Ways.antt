@@ -16,7 +16,8 @@ use Rattle.rules.specs.Text.Words.{byteAt, valueOf, nextOf, plainAt}
 use Rattle.rules.specs.Text.Shape.{psiAt, boxedAt, offsetAt, tagAt, keyOf, inOrder, lineShape}
 use Rattle.rules.specs.Text.Layout.{Tables, withVars, withLabels, oneVar, sized, nothing, zeros}
 use Rattle.rules.specs.Text.Fill.{Filled, filled, putVar, addVar, Fields, fields, putField, moreFields, fillFields, fillProducts, addRow, fillType, plainLine, putEntry, fillEntries, addLabel, fillLabel, oneMore, fillLine}
-use Rattle.reader.specs.Read.{closed}
+use Rattle.reader.specs.Read.{settled, closed}
+use Rattle.reader.proofs.Once.{line-settled}
 
 -- ---- lines before the body
 
@@ -181,11 +182,14 @@ module _ (c : Count) (t : Tables) where
     lines-end zero p h = absurd (omega arith)
     lines-end (suc left) p h = rw (le-ltb at (length s))
 
-    pub lines-line : (left : ℕ) {x : Lined} → 0 < left → at < length s → x ≡ lineAt s at c t
+    -- of the line no more counts than what is settled
+    pub lines-line : (left : ℕ) (x : Lined) → 0 < left → at < length s → settled x ≡ settled (lineAt s at c t)
         → linesFrom s left line at c t ≡ andLine (linesFrom s (left - 1) (line + 1)) line x
     unfolding linesFrom
-    lines-line zero p h e = absurd (omega arith)
-    lines-line (suc left) p h e = rw (lt-ltb at (length s), e, sub-one (suc left))
+    lines-line zero x p h e = absurd (omega arith)
+    lines-line (suc left) x p h e =
+        rw (lt-ltb at (length s), line-settled (linesFrom s left (line + 1)) line (lineAt s at c t), sym e, sub-one (suc left))
+        (sym (line-settled (linesFrom s left (line + 1)) line x))
 
   module _ (rest : ℕ → Count → Tables → TextOut) (line n : ℕ) where
     pub goes-on : (a : ℕ) → a ≡ 0 → andLine rest line (lined a n c t) ≡ rest n c t

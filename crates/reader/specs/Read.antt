@@ -2,7 +2,7 @@
 use Prim.Native.Nat.{ℕ, _+_, _≤_, _<_, max}
 use mathlib.Core.Path.{_≡_}
 use mathlib.Core.List.{List}
-use mathlib.Core.Bool.{Bool}
+use mathlib.Core.Bool.{Bool, false}
 use lib.Dec.{eqb}
 use lib.ListN.{length}
 use Rattle.rules.specs.declared.Answer.{Answer}
@@ -10,9 +10,14 @@ use Rattle.rules.specs.declared.Count.{Count}
 use Rattle.rules.specs.declared.Reading.{Reading}
 use Rattle.rules.specs.When.{when}
 use Rattle.rules.specs.Limits.{limits}
-use Rattle.rules.specs.Text.Words.{valueOf, nextOf}
-use Rattle.rules.specs.Text.Layout.{Tables}
-use Rattle.rules.specs.Text.{TextOut, stopped}
+use Rattle.rules.specs.declared.Next.the-variants as N
+use Rattle.rules.specs.Text.Words.{byteAt, valueOf, nextOf}
+use Rattle.rules.specs.Text.Shape.{keyOf, lineShape}
+use Rattle.rules.specs.Text.Layout.{Tables, nothing, zeros}
+use Rattle.rules.specs.Text.Fill.{fillLine}
+use Rattle.rules.specs.Text.{Lined, lined, TextOut, stopped}
+use Rattle.once.specs.Once.{hasExpr}
+use Rattle.once.proofs.Right.{Refuses}
 
 -- a place in a text that is not too long
 pub record Placed (s : List ℕ) (at : ℕ) : Type 0 where
@@ -50,6 +55,20 @@ pub record Ready (s : List ℕ) (at : ℕ) (c : Count) : Type 0 where
 pub record Room (s : List ℕ) (at : ℕ) (c : Count) : Type 0 where
   pub ready : Ready s at c
   pub room : c .lines < limits .lines
+
+-- a line of the body without expressions
+abbrev pub Plain : ℕ → Type 0
+Plain k = (5 ≤ k) × ((k ≤ 13) × (hasExpr (keyOf k) ≡ false))
+
+-- ---- a line
+
+-- its place, counts and tables count for an answer 0 only
+unfoldable pub settled : Lined → Lined
+settled (lined a n c t) = when (eqb a 0) (λ _. lined a n c t) (λ _. lined a 0 nothing zeros)
+
+-- a line of the right shape passes a limit
+abbrev pub Late : List ℕ → ℕ → ℕ → Count → Tables → Type 0
+Late s k at c t = (n : ℕ) → lineShape s (c .vars) (keyOf k) at ≡ N.At n → byteAt s n ≡ 10 → Refuses (fillLine s (keyOf k) at c t)
 
 -- ---- tables
 

@@ -1,17 +1,17 @@
 // A glue text read into the tables of a program: each line's shape first, then its limits, with its numbers written on the way.
+// A line with expressions is read at once, and looked at for its shape alone only if that fails.
+use once::line_once;
 use program::clear;
 use program::put_entry;
 use program::put_field;
 use program::put_label_line;
 use program::put_line;
-use program::put_node;
 use program::put_psi;
 use program::put_sizes;
 use program::put_var;
 use rules::Answer;
 use rules::Count;
 use rules::Filling;
-use rules::Head;
 use rules::Limits;
 use rules::Next;
 use rules::Reading;
@@ -24,16 +24,14 @@ use shape::offset_at;
 use shape::part_of;
 use shape::psi_at;
 use shape::tag_at;
-use text::arity;
 use text::byte_at;
-use text::head_at;
 use text::next_of;
 use text::number_at;
 use text::plain_at;
 use text::value_of;
 use text::var_at;
 ghost use mathlib.Core.Path.{_≡_};
-ghost use mathlib.Core.Bool.{Bool, true, _&&_, _||_};
+ghost use mathlib.Core.Bool.{Bool, true, false, _&&_, _||_};
 ghost use mathlib.Core.List.{List};
 ghost use Prim.Native.Nat.{ℕ, _+_, _≤_, _<_};
 ghost use lib.Dec.{ltb, eqb};
@@ -46,7 +44,8 @@ ghost use Rattle.rules.specs.Text.Shape as shapes;
 ghost use Rattle.rules.specs.Text.Layout as layout;
 ghost use Rattle.rules.specs.Text.Fill as fills;
 ghost use Rattle.program.specs.Lines.{tablesOf};
-ghost use Rattle.reader.specs.Read.{Placed, Near, Worded, Within, Ready, Room, closed, Holds};
+ghost use Rattle.once.specs.Once.{hasExpr};
+ghost use Rattle.reader.specs.Read.{Placed, Near, Worded, Within, Ready, Room, Plain, Late, settled, closed, Holds};
 
 // As many fields as a row may have, and the one after these, which is refused.
 const FIELD_TURNS: usize = Limits::PRODUCTS * Limits::WIDTH + 1;
@@ -207,60 +206,6 @@ fn kind_code(s: &[u8], at: usize) -> Word
                 past: w.past,
             }
         }
-    }
-}
-
-// ---- expressions: each node before its operands. A node without operands, and the last operand, end without a further call
-
-fn expression(s: &[u8], depth: usize, at: usize, free: usize, nodes: &mut [u64; 4096]) -> Filling
-    requires { ⌜ length (now s) ≤ 32768 ⌝ }
-    ensures { λ r. ⌜ fills.out r (now (nodes .exit)) ≡ fills.expression (now (s .entry)) depth at free (now (nodes .entry)) ⌝ }
-{
-    if depth == 0 {
-        return Filling::Limit;
-    }
-    let h = head_at(s, at);
-    match h {
-        Head::Not(_) => Filling::Limit,
-        Head::Node(op, a, n) => {
-            if Limits::NODES <= free {
-                return Filling::Limit;
-            }
-            put_node(nodes, free, op, a);
-            let f = free + 1;
-            let m = arity(op);
-            if m == 0 {
-                return Filling::Got(n, f);
-            }
-            operands(s, depth - 1, m, n, f, nodes)
-        }
-    }
-}
-
-// n operands, each after a space.
-fn operands(
-    s: &[u8],
-    depth: usize,
-    n: usize,
-    at: usize,
-    free: usize,
-    nodes: &mut [u64; 4096],
-) -> Filling
-    requires { ⌜ (at ≤ length (now s)) × (length (now s) ≤ 32768) ⌝ }
-    ensures { λ r. ⌜ fills.out r (now (nodes .exit)) ≡ fills.operands (fills.expression (now (s .entry)) depth) n at free (now (nodes .entry)) ⌝ }
-{
-    if n == 0 {
-        return Filling::Got(at, free);
-    }
-    let r = expression(s, depth, at + 1, free, nodes);
-    match r {
-        Filling::Got(next, f) => {
-            if n == 1 {
-                return Filling::Got(next, f);
-            }
-            operands(s, depth, n - 1, next, f, nodes)
-        }
-        Filling::Limit => Filling::Limit,
     }
 }
 
@@ -429,77 +374,12 @@ fn plain_line(c: Count, kind: u32, l: u32, v: u32, w: u32, body: &mut [u32; 2560
     }
 }
 
-// A line whose last expression stands at `at`; its first node is the first that the line wrote.
-fn expr_line(
-    s: &[u8],
-    c: Count,
-    kind: u32,
-    l: u32,
-    v: u32,
-    w: u32,
-    at: usize,
-    free: usize,
-    nodes: &mut [u64; 4096],
-    body: &mut [u32; 2560],
-) -> Fill
-    requires { ⌜ (length (now s) ≤ limits .bytes) × ((c .lines < limits .lines) × (c .nodes ≤ limits .nodes)) ⌝ }
-    ensures { λ r. ⌜ ((t : layout.Tables) → fills.filled (r .ok) (r .count) (layout.withBody (layout.withNodes t (now (nodes .exit))) (now (body .exit))) ≡ fills.exprLine c (layout.withBody t (now (body .entry))) kind l v w (fills.expression (now (s .entry)) (limits .depth) at free (now (nodes .entry)))) ⌝ }
-{
-    let e = expression(s, Limits::DEPTH, at, free, nodes);
-    match e {
-        Filling::Limit => Fill {
-            ok: false,
-            count: c,
-        },
-        Filling::Got(_, f) => {
-            put_line(body, c.lines, kind, l, v, w, c.nodes as u32);
-            Fill {
-                ok: true,
-                count: one_line(c, f),
-            }
-        }
-    }
-}
-
-fn fill_set(s: &[u8], at: usize, c: Count, nodes: &mut [u64; 4096], body: &mut [u32; 2560]) -> Fill
-    requires { ⌜ Room (now s) at c ⌝ }
-    ensures { λ r. ⌜ ((t : layout.Tables) → fills.filled (r .ok) (r .count) (layout.withBody (layout.withNodes t (now (nodes .exit))) (now (body .exit))) ≡ fills.fillSet (now (s .entry)) at c (layout.withBody (layout.withNodes t (now (nodes .entry))) (now (body .entry)))) ⌝ }
-{
-    let v = var_word(s, at);
-    expr_line(s, c, 1, 0, v.value, 0, v.past, c.nodes, nodes, body)
-}
-
-fn fill_put(s: &[u8], at: usize, c: Count, nodes: &mut [u64; 4096], body: &mut [u32; 2560]) -> Fill
-    requires { ⌜ Room (now s) at c ⌝ }
-    ensures { λ r. ⌜ ((t : layout.Tables) → fills.filled (r .ok) (r .count) (layout.withBody (layout.withNodes t (now (nodes .exit))) (now (body .exit))) ≡ fills.fillPut (now (s .entry)) at c (layout.withBody (layout.withNodes t (now (nodes .entry))) (now (body .entry)))) ⌝ }
-{
-    let e = expression(s, Limits::DEPTH, at, c.nodes, nodes);
-    match e {
-        Filling::Limit => Fill {
-            ok: false,
-            count: c,
-        },
-        Filling::Got(n, f) => {
-            let w = number_word(s, n + 1);
-            expr_line(s, c, 2, 0, 0, w.value, w.past, f, nodes, body)
-        }
-    }
-}
-
 fn fill_goto(s: &[u8], at: usize, c: Count, body: &mut [u32; 2560]) -> Fill
     requires { ⌜ Room (now s) at c ⌝ }
     ensures { λ r. ⌜ ((t : layout.Tables) → fills.filled (r .ok) (r .count) (layout.withBody t (now (body .exit))) ≡ fills.fillGoto (now (s .entry)) at c (layout.withBody t (now (body .entry)))) ⌝ }
 {
     let l = plain_word(s, at);
     plain_line(c, 3, l.value, 0, 0, body)
-}
-
-fn fill_if(s: &[u8], at: usize, c: Count, nodes: &mut [u64; 4096], body: &mut [u32; 2560]) -> Fill
-    requires { ⌜ Room (now s) at c ⌝ }
-    ensures { λ r. ⌜ ((t : layout.Tables) → fills.filled (r .ok) (r .count) (layout.withBody (layout.withNodes t (now (nodes .exit))) (now (body .exit))) ≡ fills.fillIf (now (s .entry)) at c (layout.withBody (layout.withNodes t (now (nodes .entry))) (now (body .entry)))) ⌝ }
-{
-    let l = plain_word(s, at);
-    expr_line(s, c, 4, l.value, 0, 0, l.past, c.nodes, nodes, body)
 }
 
 fn fill_ifimm(s: &[u8], at: usize, c: Count, body: &mut [u32; 2560]) -> Fill
@@ -520,19 +400,6 @@ fn fill_test(kind: u32, s: &[u8], at: usize, c: Count, body: &mut [u32; 2560]) -
     let v = var_word(s, l.past);
     let w = number_word(s, v.past);
     plain_line(c, kind, l.value, v.value, w.value, body)
-}
-
-fn fill_return(
-    s: &[u8],
-    at: usize,
-    c: Count,
-    nodes: &mut [u64; 4096],
-    body: &mut [u32; 2560],
-) -> Fill
-    requires { ⌜ Room (now s) at c ⌝ }
-    ensures { λ r. ⌜ ((t : layout.Tables) → fills.filled (r .ok) (r .count) (layout.withBody (layout.withNodes t (now (nodes .exit))) (now (body .exit))) ≡ fills.fillReturn (now (s .entry)) at c (layout.withBody (layout.withNodes t (now (nodes .entry))) (now (body .entry)))) ⌝ }
-{
-    expr_line(s, c, 8, 0, 0, 0, at, c.nodes, nodes, body)
 }
 
 // One turn an entry.
@@ -606,39 +473,34 @@ fn body_line(
     k: u64,
     at: usize,
     c: Count,
-    nodes: &mut [u64; 4096],
     labels: &mut [u64; 6208],
     body: &mut [u32; 2560],
 ) -> Fill
-    requires { ⌜ Room (now s) at c × ((5 ≤ k) × (k ≤ 13)) ⌝ }
-    ensures { λ r. ⌜ ((t : layout.Tables) → fills.filled (r .ok) (r .count) (layout.withBody (layout.withLabels (layout.withNodes t (now (nodes .exit))) (now (labels .exit))) (now (body .exit))) ≡ fills.fillLine (now (s .entry)) (shapes.keyOf k) at c (layout.withBody (layout.withLabels (layout.withNodes t (now (nodes .entry))) (now (labels .entry))) (now (body .entry)))) ⌝ }
+    requires { ⌜ Room (now s) at c × Plain k ⌝ }
+    ensures { λ r. ⌜ ((t : layout.Tables) → fills.filled (r .ok) (r .count) (layout.withBody (layout.withLabels t (now (labels .exit))) (now (body .exit))) ≡ fills.fillLine (now (s .entry)) (shapes.keyOf k) at c (layout.withBody (layout.withLabels t (now (labels .entry))) (now (body .entry)))) ⌝ }
 {
     match k {
-        5 => fill_set(s, at, c, nodes, body),
-        6 => fill_put(s, at, c, nodes, body),
         7 => fill_goto(s, at, c, body),
-        8 => fill_if(s, at, c, nodes, body),
         9 => fill_ifimm(s, at, c, body),
         10 => fill_test(6, s, at, c, body),
         11 => fill_test(7, s, at, c, body),
-        12 => fill_return(s, at, c, nodes, body),
         _ => fill_label(s, at, c, labels, body),
     }
 }
 
+// A line without expressions.
 fn fill_line(
     s: &[u8],
     k: u64,
     at: usize,
     c: Count,
-    nodes: &mut [u64; 4096],
     rows: &mut [u32; 17536],
     vars: &mut [u32; 96],
     labels: &mut [u64; 6208],
     body: &mut [u32; 2560],
 ) -> Fill
-    requires { ⌜ Ready (now s) at c × ((1 ≤ k) × (k ≤ 13)) ⌝ }
-    ensures { λ r. ⌜ ((Z : List ℕ) → fills.filled (r .ok) (r .count) (tablesOf Z (now (nodes .exit)) (now (rows .exit)) (now (vars .exit)) (now (labels .exit)) (now (body .exit))) ≡ fills.fillLine (now (s .entry)) (shapes.keyOf k) at c (tablesOf Z (now (nodes .entry)) (now (rows .entry)) (now (vars .entry)) (now (labels .entry)) (now (body .entry)))) ⌝ }
+    requires { ⌜ Ready (now s) at c × ((1 ≤ k) × ((k ≤ 13) × (hasExpr (shapes.keyOf k) ≡ false))) ⌝ }
+    ensures { λ r. ⌜ ((Z N : List ℕ) → fills.filled (r .ok) (r .count) (tablesOf Z N (now (rows .exit)) (now (vars .exit)) (now (labels .exit)) (now (body .exit))) ≡ fills.fillLine (now (s .entry)) (shapes.keyOf k) at c (tablesOf Z N (now (rows .entry)) (now (vars .entry)) (now (labels .entry)) (now (body .entry)))) ⌝ }
 {
     if k < 5 {
         return header_line(s, k, at, c, rows, vars);
@@ -649,7 +511,7 @@ fn fill_line(
             count: c,
         };
     }
-    body_line(s, k, at, c, nodes, labels, body)
+    body_line(s, k, at, c, labels, body)
 }
 
 // ---- a line, whole
@@ -679,27 +541,77 @@ fn limited(k: u64, next: usize, f: Fill) -> Lined
     }
 }
 
-// A line whose shape is right up to n.
+// A line without expressions whose shape is right up to n.
 fn shaped_line(
     s: &[u8],
     k: u64,
     at: usize,
     n: usize,
     c: Count,
-    nodes: &mut [u64; 4096],
     rows: &mut [u32; 17536],
     vars: &mut [u32; 96],
     labels: &mut [u64; 6208],
     body: &mut [u32; 2560],
 ) -> Lined
-    requires { ⌜ Ready (now s) at c × ((1 ≤ k) × (k ≤ 13)) ⌝ }
-    ensures { λ r. ⌜ ((Z : List ℕ) → texts.lined (r .answer) (r .next) (r .count) (tablesOf Z (now (nodes .exit)) (now (rows .exit)) (now (vars .exit)) (now (labels .exit)) (now (body .exit))) ≡ texts.shaped (now (s .entry)) k at c (tablesOf Z (now (nodes .entry)) (now (rows .entry)) (now (vars .entry)) (now (labels .entry)) (now (body .entry))) (Next.At n)) ⌝ }
+    requires { ⌜ Ready (now s) at c × ((1 ≤ k) × ((k ≤ 13) × (hasExpr (shapes.keyOf k) ≡ false))) ⌝ }
+    ensures { λ r. ⌜ ((Z N : List ℕ) → texts.lined (r .answer) (r .next) (r .count) (tablesOf Z N (now (rows .exit)) (now (vars .exit)) (now (labels .exit)) (now (body .exit))) ≡ texts.shaped (now (s .entry)) k at c (tablesOf Z N (now (rows .entry)) (now (vars .entry)) (now (labels .entry)) (now (body .entry))) (Next.At n)) ⌝ }
 {
     if byte_at(s, n) != 10 {
         return refused(2, n, c);
     }
-    let f = fill_line(s, k, at, c, nodes, rows, vars, labels, body);
+    let f = fill_line(s, k, at, c, rows, vars, labels, body);
     limited(k, n + 1, f)
+}
+
+// A line with expressions that could not be read at once: its shape is wrong (2), or it passes a limit (3).
+fn late(s: &[u8], k: u64, at: usize, c: Count) -> Lined
+    ensures { λ r. ⌜ ((t u : layout.Tables) → Late (now (s .entry)) k at c t → settled (texts.lined (r .answer) (r .next) (r .count) u) ≡ settled (texts.shaped (now (s .entry)) k at c t (shapes.lineShape (now (s .entry)) (c .vars) (shapes.keyOf k) at))) ⌝ }
+{
+    let x = line_shape(s, c.vars, k, at);
+    match x {
+        Next::At(n) => {
+            if byte_at(s, n) != 10 {
+                return refused(2, n, c);
+            }
+            refused(3, n, c)
+        }
+        Next::Bad(q) => refused(2, q, c),
+    }
+}
+
+// A line with expressions.
+fn expr_line(
+    s: &[u8],
+    k: u64,
+    at: usize,
+    c: Count,
+    nodes: &mut [u64; 4096],
+    body: &mut [u32; 2560],
+) -> Lined
+    requires { ⌜ Within c × (hasExpr (shapes.keyOf k) ≡ true) ⌝ }
+    ensures { λ r. ⌜ ((t : layout.Tables) → settled (texts.lined (r .answer) (r .next) (r .count) (layout.withBody (layout.withNodes t (now (nodes .exit))) (now (body .exit)))) ≡ settled (texts.shaped (now (s .entry)) k at c (layout.withBody (layout.withNodes t (now (nodes .entry))) (now (body .entry))) (shapes.lineShape (now (s .entry)) (c .vars) (shapes.keyOf k) at))) ⌝ }
+{
+    let r = line_once(s, k, at, c.lines, c.nodes, nodes, body);
+    match r {
+        Filling::Got(n, f) => Lined {
+            answer: 0,
+            next: n + 1,
+            count: in_part(one_line(c, f), part_of(k)),
+        },
+        Filling::Limit => late(s, k, at, c),
+    }
+}
+
+fn has_expr(k: u64) -> bool
+    ensures { λ b. ⌜ b ≡ hasExpr (shapes.keyOf k) ⌝ }
+{
+    match k {
+        5 => true,
+        6 => true,
+        8 => true,
+        12 => true,
+        _ => false,
+    }
 }
 
 // A line from the place after its key on.
@@ -716,14 +628,17 @@ fn keyed_line(
     body: &mut [u32; 2560],
 ) -> Lined
     requires { ⌜ Ready (now s) at c × ((1 ≤ k) × (k ≤ 13)) ⌝ }
-    ensures { λ r. ⌜ ((Z : List ℕ) → texts.lined (r .answer) (r .next) (r .count) (tablesOf Z (now (nodes .exit)) (now (rows .exit)) (now (vars .exit)) (now (labels .exit)) (now (body .exit))) ≡ texts.keyed (now (s .entry)) start c (tablesOf Z (now (nodes .entry)) (now (rows .entry)) (now (vars .entry)) (now (labels .entry)) (now (body .entry))) (Reading.Got k at)) ⌝ }
+    ensures { λ r. ⌜ ((Z : List ℕ) → settled (texts.lined (r .answer) (r .next) (r .count) (tablesOf Z (now (nodes .exit)) (now (rows .exit)) (now (vars .exit)) (now (labels .exit)) (now (body .exit)))) ≡ settled (texts.keyed (now (s .entry)) start c (tablesOf Z (now (nodes .entry)) (now (rows .entry)) (now (vars .entry)) (now (labels .entry)) (now (body .entry))) (Reading.Got k at))) ⌝ }
 {
     if !in_order(c.part, k) {
         return refused(2, start, c);
     }
+    if has_expr(k) {
+        return expr_line(s, k, at, c, nodes, body);
+    }
     let x = line_shape(s, c.vars, k, at);
     match x {
-        Next::At(n) => shaped_line(s, k, at, n, c, nodes, rows, vars, labels, body),
+        Next::At(n) => shaped_line(s, k, at, n, c, rows, vars, labels, body),
         Next::Bad(p) => refused(2, p, c),
     }
 }
@@ -739,7 +654,7 @@ fn line_at(
     body: &mut [u32; 2560],
 ) -> Lined
     requires { ⌜ Ready (now s) at c ⌝ }
-    ensures { λ r. ⌜ ((Z : List ℕ) → texts.lined (r .answer) (r .next) (r .count) (tablesOf Z (now (nodes .exit)) (now (rows .exit)) (now (vars .exit)) (now (labels .exit)) (now (body .exit))) ≡ texts.lineAt (now (s .entry)) at c (tablesOf Z (now (nodes .entry)) (now (rows .entry)) (now (vars .entry)) (now (labels .entry)) (now (body .entry)))) ⌝ }
+    ensures { λ r. ⌜ ((Z : List ℕ) → settled (texts.lined (r .answer) (r .next) (r .count) (tablesOf Z (now (nodes .exit)) (now (rows .exit)) (now (vars .exit)) (now (labels .exit)) (now (body .exit)))) ≡ settled (texts.lineAt (now (s .entry)) at c (tablesOf Z (now (nodes .entry)) (now (rows .entry)) (now (vars .entry)) (now (labels .entry)) (now (body .entry))))) ⌝ }
 {
     let w = key_at(s, at);
     match w {

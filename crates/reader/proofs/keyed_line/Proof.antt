@@ -1,10 +1,11 @@
--- `reader::keyed_line` meets its contract: by the order of the keys, and by the shape of the line. Assumes nothing.
-use Rattle.reader.proofs.Ways.{not-ordered, ordered, refused}
+-- `reader::keyed_line` meets its contract: by the order of the keys, by whether the line has expressions, and by its shape. Assumes nothing.
+use Rattle.reader.proofs.Ways.{not-ordered, ordered}
 use Rattle.reader.proofs.keyed_line.Statement.{statement}
+use Rattle.reader.specs.Read.{settled}
 use Rattle.program.specs.Lines.{tablesOf}
 use borrow.Author.Needs.{needs}
 use borrow.Author.Tests.{not-false, not-true}
-use mathlib.Core.Path.{_∙_, sym}
+use mathlib.Core.Path.{_∙_, ap, refl, sym}
 use Rattle.reader.proofs.keyed_line.Tie as tie
 
 pub keyed-line-spec : {M : Type 1} → statement M
@@ -13,11 +14,14 @@ keyed-line-spec =
     (tie.spec
     (λ c κs. search needs)  -- in-order-requires
     (λ c κs. search needs)  -- refused-requires
-    (λ c. let a = c .before .before .before .before .args in λ Z. c .refused .ensures (tablesOf Z (a .nodes .now) (a .rows .now) (a .vars .now) (a .labels .now) (a .body .now)) ∙ sym (not-ordered (a .s .now) (a .at) (a .c) (tablesOf Z (a .nodes .now) (a .rows .now) (a .vars .now) (a .labels .now) (a .body .now)) (a .k) (a .start) (sym (c .before .before .in-order .ensures) ∙ not-true (c .before .before .in-order .result) (c .before .if1 .taken))))  -- returns
+    (λ c. let a = c .before .before .before .before .args in λ Z. ap settled (c .refused .ensures (tablesOf Z (a .nodes .now) (a .rows .now) (a .vars .now) (a .labels .now) (a .body .now)) ∙ sym (not-ordered (a .s .now) (a .at) (a .c) (tablesOf Z (a .nodes .now) (a .rows .now) (a .vars .now) (a .labels .now) (a .body .now)) (a .k) (a .start) (sym (c .before .before .in-order .ensures) ∙ not-true (c .before .before .in-order .result) (c .before .if1 .taken)))))  -- returns
+    (λ c κs. search needs)  -- has-expr-requires
+    (λ c κs. (c .before .before .before .before .before .before .before .pre .0 .within, sym (c .before .before .before .has-expr .ensures) ∙ c .before .before .if2 .taken))  -- expr-line-requires
+    (λ c. let a = c .before .before .before .before .before .before .before .before .args in λ Z. c .expr-line .ensures (tablesOf Z (a .nodes .now) (a .rows .now) (a .vars .now) (a .labels .now) (a .body .now)) ∙ sym (ap settled (ordered (a .s .now) (a .at) (a .c) (tablesOf Z (a .nodes .now) (a .rows .now) (a .vars .now) (a .labels .now) (a .body .now)) (a .k) (a .start) (sym (c .before .before .before .before .before .before .in-order .ensures) ∙ not-false (c .before .before .before .before .before .before .in-order .result) (c .before .before .before .before .before .if1 .left)) refl)))  -- returns-2
     (λ c κs. search needs)  -- line-shape-requires
     (λ c. search needs)  -- enum-known-x
-    (λ c κs. c .before .before .before .before .before .before .before .before .before .before .before .before .pre)  -- shaped-line-requires
+    (λ c κs. let p = c .before .before .before .before .before .before .before .before .before .before .before .before .before .pre in (p .0, (p .1 .0, (p .1 .1, sym (c .before .before .before .before .before .before .before .before .before .has-expr .ensures) ∙ c .before .before .before .before .before .before .before .before .if2 .left))))  -- shaped-line-requires
     (λ c. search needs)  -- enum-known-x-2
     (λ c κs. search needs)  -- refused-requires-2
-    (λ c. let a = c .before .before .before .before .before .before .before .before .before .before .before .before .before .args in λ Z. c .shaped-line .ensures Z ∙ sym (ordered (a .s .now) (a .at) (a .c) (tablesOf Z (a .nodes .now) (a .rows .now) (a .vars .now) (a .labels .now) (a .body .now)) (a .k) (a .start) (sym (c .before .before .before .before .before .before .before .before .before .before .before .in-order .ensures) ∙ not-false (c .before .before .before .before .before .before .before .before .before .before .before .in-order .result) (c .before .before .before .before .before .before .before .before .before .before .if1 .left)) (sym (c .before .before .before .before .before .before .before .x .given .1) ∙ c .before .before .before .before .before .before .before .before .before .line-shape .ensures)))  -- returns-2
-    (λ c. let a = c .before .before .before .before .before .before .before .before .args in λ Z. c .refused2 .ensures (tablesOf Z (a .nodes .now) (a .rows .now) (a .vars .now) (a .labels .now) (a .body .now)) ∙ sym (ordered (a .s .now) (a .at) (a .c) (tablesOf Z (a .nodes .now) (a .rows .now) (a .vars .now) (a .labels .now) (a .body .now)) (a .k) (a .start) (sym (c .before .before .before .before .before .before .in-order .ensures) ∙ not-false (c .before .before .before .before .before .before .in-order .result) (c .before .before .before .before .before .if1 .left)) (sym (c .before .before .x2 .given .1) ∙ c .before .before .before .before .line-shape .ensures))))  -- returns-3
+    (λ c. let a = c .before .before .before .before .before .before .before .before .before .before .before .before .before .before .args in λ Z. ap settled (c .shaped-line .ensures Z (a .nodes .now) ∙ sym (ordered (a .s .now) (a .at) (a .c) (tablesOf Z (a .nodes .now) (a .rows .now) (a .vars .now) (a .labels .now) (a .body .now)) (a .k) (a .start) (sym (c .before .before .before .before .before .before .before .before .before .before .before .before .in-order .ensures) ∙ not-false (c .before .before .before .before .before .before .before .before .before .before .before .before .in-order .result) (c .before .before .before .before .before .before .before .before .before .before .before .if1 .left)) (sym (c .before .before .before .before .before .before .x .given .1) ∙ c .before .before .before .before .before .before .before .before .line-shape .ensures))))  -- returns-3
+    (λ c. let a = c .before .before .before .before .before .before .before .before .before .before .args in λ Z. ap settled (c .refused2 .ensures (tablesOf Z (a .nodes .now) (a .rows .now) (a .vars .now) (a .labels .now) (a .body .now)) ∙ sym (ordered (a .s .now) (a .at) (a .c) (tablesOf Z (a .nodes .now) (a .rows .now) (a .vars .now) (a .labels .now) (a .body .now)) (a .k) (a .start) (sym (c .before .before .before .before .before .before .before .before .in-order .ensures) ∙ not-false (c .before .before .before .before .before .before .before .before .in-order .result) (c .before .before .before .before .before .before .before .if1 .left)) (sym (c .before .before .x2 .given .1) ∙ c .before .before .before .before .line-shape .ensures)))))  -- returns-4

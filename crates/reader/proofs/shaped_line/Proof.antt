@@ -1,8 +1,7 @@
 -- `reader::shaped_line` meets its contract: by whether a line feed stands after the shape. Assumes nothing.
-use Rattle.reader.proofs.Ways.{feed, no-feed, refused}
+use Rattle.reader.proofs.Ways.{feed, no-feed}
 use Rattle.reader.proofs.shaped_line.Statement.{statement}
 use Rattle.program.specs.Lines.{tablesOf}
-use Rattle.rules.specs.Text.{limited}
 use Rattle.text.proofs.Laws.{inside}
 use borrow.Author.Needs.{needs}
 use mathlib.Core.Path.{_∙_, sym}
@@ -15,8 +14,8 @@ shaped-line-spec =
     (tie.spec
     (λ c κs. search needs)  -- byte-at-requires
     (λ c κs. search needs)  -- refused-requires
-    (λ c. let a = c .before .before .before .before .args in λ Z. c .refused .ensures (tablesOf Z (a .nodes .now) (a .rows .now) (a .vars .now) (a .labels .now) (a .body .now)) ∙ sym (no-feed (a .s .now) (a .at) (a .c) (tablesOf Z (a .nodes .now) (a .rows .now) (a .vars .now) (a .labels .now) (a .body .now)) (a .k) (a .n) (λ e. c .before .if1 .taken (c .before .before .byte-at .ensures ∙ e))))  -- returns
-    (λ c κs. c .before .before .before .before .before .before .before .before .pre)  -- fill-line-requires
-    (λ c. let a = c .before .before .before .before .before .before .before .before .before .args in omega (arith, inside (a .s .now) (a .n) (omega (arith, c .before .before .before .before .before .before .before .byte-at .ensures, c .before .before .before .before .before .before .if1 .left))))  -- add-limited
+    (λ c. let a = c .before .before .before .before .args in λ Z N. c .refused .ensures (tablesOf Z N (a .rows .now) (a .vars .now) (a .labels .now) (a .body .now)) ∙ sym (no-feed (a .s .now) (a .at) (a .c) (tablesOf Z N (a .rows .now) (a .vars .now) (a .labels .now) (a .body .now)) (a .k) (a .n) (λ e. c .before .if1 .taken (c .before .before .byte-at .ensures ∙ e))))  -- returns
+    (λ c κs. c .before .before .before .before .before .before .before .pre)  -- fill-line-requires
+    (λ c. let a = c .before .before .before .before .before .before .before .before .args in omega (arith, inside (a .s .now) (a .n) (omega (arith, c .before .before .before .before .before .before .byte-at .ensures, c .before .before .before .before .before .if1 .left))))  -- add-limited
     (λ c κs. search needs)  -- limited-requires
-    (λ c. let a = c .before .before .before .before .before .before .before .before .before .before .args in let f = c .before .fill-line in λ Z. c .limited .ensures (tablesOf Z (f .last .1 .1 .1 .1 .0) (f .last .1 .1 .1 .1 .1 .0) (f .last .1 .1 .1 .1 .1 .1 .0) (f .last .1 .1 .1 .1 .1 .1 .1 .0) (f .last .1 .1 .1 .1 .1 .1 .1 .1 .0)) ∙ sym (feed (a .s .now) (a .at) (a .c) (tablesOf Z (a .nodes .now) (a .rows .now) (a .vars .now) (a .labels .now) (a .body .now)) (a .k) (a .n) (sym (c .before .before .before .before .before .before .before .before .byte-at .ensures) ∙ c .before .before .before .before .before .before .before .if1 .left) (f .ensures Z))))  -- returns-2
+    (λ c. let a = c .before .before .before .before .before .before .before .before .before .args in let f = c .before .fill-line in λ Z N. c .limited .ensures (tablesOf Z N (f .last .1 .1 .1 .1 .0) (f .last .1 .1 .1 .1 .1 .0) (f .last .1 .1 .1 .1 .1 .1 .0) (f .last .1 .1 .1 .1 .1 .1 .1 .0)) ∙ sym (feed (a .s .now) (a .at) (a .c) (tablesOf Z N (a .rows .now) (a .vars .now) (a .labels .now) (a .body .now)) (a .k) (a .n) (sym (c .before .before .before .before .before .before .before .byte-at .ensures) ∙ c .before .before .before .before .before .before .if1 .left) (f .ensures Z N))))  -- returns-2

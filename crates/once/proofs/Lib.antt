@@ -1,0 +1,6 @@
+-- What the proofs of several functions use; and that what is read once is what the rules read.
+mod Exprs
+pub mod Keys
+mod Ways
+mod Shaped
+pub mod Right

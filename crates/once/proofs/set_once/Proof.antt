@@ -1,0 +1,25 @@
+-- `set_once`: by the word, and by the byte after it. Assumes nothing.
+use mathlib.Core.Path.{_∙_, sym}
+use native.Mathlib.Omega.{arith}
+use Rattle.text.proofs.Laws.{got, inside, var-reads}
+use Rattle.once.specs.Once.{setOnce}
+use Rattle.once.proofs.Ways.{word-bad, no-space-after, space-after}
+use borrow.Author.Needs.{needs}
+use Rattle.once.proofs.set_once.Statement.{statement}
+use Rattle.once.proofs.set_once.Tie as tie
+
+pub set-once-spec : {M : Type 1} → statement M
+unfolding setOnce
+set-once-spec =
+    tie.close
+    (tie.spec
+    (λ c κs. search needs)  -- var-at-requires
+    (λ c. search needs)  -- enum-told
+    (λ c. search needs)  -- enum-known-v
+    (λ c κs. search needs)  -- byte-at-requires
+    (λ c. no-space-after (c .before .before .before .before .before .before .before .args .s .now) _ _ (c .before .before .before .before .before .var-at .ensures) (c .before .before .before .v .given .1) (λ q. c .if1 .taken (c .before .byte-at .ensures ∙ q)))  -- returns
+    (λ c. let a = c .before .before .before .before .before .before .before .args in omega (arith, got (var-reads (a .s .now) (a .at)) (sym (c .before .before .before .before .before .var-at .ensures) ∙ c .before .before .before .v .given .1) .high))  -- cast-last-once
+    (λ c. omega (arith, inside (c .before .before .before .before .before .before .before .args .s .now) (c .before .before .before .v .given .0 .1 .0) (omega (arith, c .before .byte-at .ensures, c .if1 .left))))  -- add-last-once
+    (λ c κs. search needs)  -- last-once-requires
+    (λ c. word-bad (c .before .before .before .before .args .s .now) _ _ (c .before .before .var-at .ensures) (c .enum-told .given .1))  -- returns-2
+    (λ c. space-after (c .before .before .before .before .before .before .before .before .before .before .args .s .now) _ _ (c .before .before .before .before .before .before .before .before .var-at .ensures) (c .before .before .before .before .before .before .v .given .1) (sym (c .before .before .before .before .byte-at .ensures) ∙ c .before .before .before .if1 .left) (c .last-once .ensures)))  -- returns-3
