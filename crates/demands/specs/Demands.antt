@@ -28,9 +28,10 @@ use Rattle.program.specs.Lines.{tablesOf}
 use Rattle.checker.specs.Says as C
 use Rattle.checker.specs.Verdicts.{said}
 use Rattle.store.specs.Says as S
+use Rattle.moves.specs.declared.Moved.{Moved}
+use Rattle.moves.specs.Moves.{lines, parts}
 use Rattle.machine.specs.declared.Machine.{Machine}
-use Rattle.machine.specs.declared.Moved.{Moved}
-use Rattle.machine.specs.Steps.{lines, parts, tablesIn, lentTo, Steps, Runs}
+use Rattle.machine.specs.Steps.{tablesIn, lentTo, Steps, Runs}
 use Rattle.machine.proofs.Runs.{Rests, step-rests}
 use Rattle.runner.specs.declared.Ran.{Ran}
 use Rattle.runner.specs.Ran.{told}

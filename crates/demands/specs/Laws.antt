@@ -23,8 +23,9 @@ use Rattle.rules.specs.Laws.Accepts.{verdict-plain}
 use Rattle.rules.specs.Laws.Told.{told-store}
 use Rattle.rules.specs.Sound.StepTables.{Roomy, step-tables, run-tables}
 use Rattle.program.specs.Lines.{tablesOf}
+use Rattle.moves.specs.Moves.{lines}
 use Rattle.machine.specs.declared.Machine.{Machine}
-use Rattle.machine.specs.Steps.{lines, tablesIn, Steps}
+use Rattle.machine.specs.Steps.{tablesIn, Steps}
 use Rattle.machine.proofs.Laws.{step-keeps, whole}
 use Rattle.runner.specs.declared.Ran.{Ran}
 use Rattle.runner.specs.Ran.{told}

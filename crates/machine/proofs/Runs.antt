@@ -12,8 +12,8 @@ use Rattle.rules.specs.When.{when}
 use Rattle.rules.specs.Program.{Prog}
 use Rattle.rules.specs.Machine.{decide, saysAct, saysFrom, says}
 use Rattle.rules.specs.Machine.Tables.{MTables, datumCode, applyT, storeOf, machine, stepFromT, stepT, runT, spent, stepWithin, saysWithin, runWithin}
-use Rattle.machine.specs.declared.Moved.{Moved}
-use Rattle.machine.specs.Steps.{lines, parts, Moves}
+use Rattle.moves.specs.declared.Moved.{Moved}
+use Rattle.moves.specs.Moves.{lines, parts, Moves}
 use Rattle.machine.proofs.Laws.{step-keeps}
 
 -- what a step says where a run ends, and where it goes on

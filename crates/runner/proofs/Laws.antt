@@ -22,7 +22,7 @@ use Rattle.rules.specs.Laws.Told.{told-verdict, told-store}
 use Rattle.program.specs.Lines.{tablesOf}
 use Rattle.checker.specs.Says as C
 use Rattle.store.specs.Says as S
-use Rattle.machine.specs.Steps.{parts}
+use Rattle.moves.specs.Moves.{parts}
 use Rattle.runner.specs.Ran.{ended}
 
 -- ---- the store

@@ -5,7 +5,7 @@ use mathlib.Core.List.{List}
 use lib.ListN.{getD}
 use borrow.Author.Needs.{needs}
 use Rattle.rules.specs.Machine.Tables.{runWithin}
-use Rattle.machine.specs.Steps.{lines, parts}
+use Rattle.moves.specs.Moves.{lines, parts}
 use Rattle.machine.proofs.Runs.{Rests, fewer, onward, ended}
 use Rattle.machine.proofs.run.Statement.{statement}
 use Rattle.machine.proofs.run.Tie as tie

@@ -46,20 +46,20 @@ use denote.Exit.{yes}
 use denote.Signature.{Slot, plain, namedLft}
 use denote.Signature.Struct.{makes}
 use Rattle.machine.specs.declared.Machine.{Machine}
-use Rattle.machine.specs.declared.Moved.{Moved}
+use Rattle.moves.specs.declared.Moved.{Moved}
 use Rattle.rules.specs.declared.Stepped.{Stepped}
-use Rattle.machine.specs.Steps.{Words, parts, lentTo, Moves}
-use Rattle.machine.proofs.Words.{words}
+use Rattle.moves.specs.Moves.{parts, Moves}
+use Rattle.machine.specs.Steps.{lentTo}
 use Rattle.machine.proofs.Machine as T
 use Rattle.machine.proofs.Machine.Laws as T′
-use Rattle.machine.proofs.Moved as D
-use Rattle.machine.proofs.Moved.Laws as D′
+use Rattle.moves.proofs.Moved as D
+use Rattle.moves.proofs.Moved.Laws as D′
 use Rattle.rules.proofs.Stepped as S
 use Rattle.rules.proofs.Stepped.Laws as S′
-use Rattle.machine.proofs.move_at as callee
-use Rattle.machine.proofs.move_at.Symbol as callee-def
-use Rattle.machine.proofs.move_at.Symbol.{name as #callee}
-use Rattle.machine.proofs.move_at.Met as callee-thm
+use Rattle.moves.proofs.move_at as callee
+use Rattle.moves.proofs.move_at.Symbol as callee-def
+use Rattle.moves.proofs.move_at.Symbol.{name as #callee}
+use Rattle.moves.proofs.move_at.Met as callee-thm
 use Rattle.machine.proofs.step.Key.{name as #fn}
 use Rattle.machine.proofs.step as fn
 use Rattle.machine.proofs.step.Statement as stated
@@ -195,11 +195,11 @@ module _ {M : Type 1} (𝓤 : URA M) (H : Heap 𝓤) (A : Atoms 𝓤) (W : Given
   abbrev to-callee : ℕ → ℕ → GName → GName → Callee 𝓤 H A at-mem run .Ghost
   to-callee ν0 ν1 δ0 δ1 = (((κ0, (κ1, (κ2, (κ3, (κ4, (κ5, (ν0 ∷ [], (ν1 ∷ [], tt)))))))), (q0, (q1, (q2, (q3, (q4, (q5, (fullShare, (fullShare, tt)))))))), tt, passed δ0 δ1, (s0 ∷ [], (s1 ∷ [], (s2 ∷ [], (s3 ∷ [], (s4 ∷ [], (s5 ∷ [], (v0 ∷ [], (v1 ∷ [], (vint w64 n0 ∷ [], (vint w32 n1 ∷ [], (vint w64 n2 ∷ [], tt)))))))))))), tt)
 
-  goes : n0 < 2 ^ 64 → n1 < 2 ^ 32 → n2 < 2 ^ 64 → Words y0 × Words y1 → (ν0 ν1 : ℕ) (δ0 δ1 : GName)
+  goes : n0 < 2 ^ 64 → n1 < 2 ^ 32 → n2 < 2 ^ 64 → (ν0 ν1 : ℕ) (δ0 δ1 : GName)
       → ent 𝓤 (⋆ 𝓤 H A ((‵ (flft κ0 q0) ⊛ ‵ (flft κ1 q1) ⊛ ‵ (flft κ2 q2) ⊛ ‵ (flft κ3 q3) ⊛ ‵ (flft κ4 q4) ⊛ ‵ (flft κ5 q5) ⊛ ‵ ftrue) ∷ ‵ (flft (ν0 ∷ []) fullShare) ∷ ‵ (flft (ν1 ∷ []) fullShare) ∷ ‵ Code0 ∷ ‵ Code1 ∷ ‵ Code2 ∷ ‵ Code3 ∷ ‵ Code4 ∷ ‵ Code5 ∷ ‵ (MutRef (named 6) (ν0 ∷ []) A0 .own (x0 δ0 y0) (v0 ∷ [])) ∷ ‵ (MutRef (named 7) (ν1 ∷ []) A1 .own (x1 δ1 y1) (v1 ∷ [])) ∷ [])) (Callee 𝓤 H A at-mem run .pre (to-callee ν0 ν1 δ0 δ1))
-  goes f0 f1 f2 asked ν0 ν1 δ0 δ1 =
-      qed W ((‵ (flft κ0 q0) ⊛ ‵ (flft κ1 q1) ⊛ ‵ (flft κ2 q2) ⊛ ‵ (flft κ3 q3) ⊛ ‵ (flft κ4 q4) ⊛ ‵ (flft κ5 q5) ⊛ ‵ ftrue) ∷ ‵ (flft (ν0 ∷ []) fullShare) ∷ ‵ (flft (ν1 ∷ []) fullShare) ∷ ‵ Code0 ∷ ‵ Code1 ∷ ‵ Code2 ∷ ‵ Code3 ∷ ‵ Code4 ∷ ‵ Code5 ∷ ‵ (MutRef (named 6) (ν0 ∷ []) A0 .own (x0 δ0 y0) (v0 ∷ [])) ∷ ‵ (MutRef (named 7) (ν1 ∷ []) A1 .own (x1 δ1 y1) (v1 ∷ [])) ∷ []) ∵ says ! asked $
-      split ! $ move ! (1 ∷ []) $ split ! $ move ! (1 ∷ []) $ split ! $ move ! (1 ∷ []) $ split ! $ move ! (1 ∷ []) $ split ! $ move ! (1 ∷ []) $ split ! $ move ! (8 ∷ 1 ∷ []) $ join ! $ move ! (7 ∷ 0 ∷ []) $ join ! $ move ! (1 ∷ 0 ∷ []) $ join ! $ move ! (1 ∷ 0 ∷ []) $ join ! $ move ! (1 ∷ 0 ∷ []) $ join ! $ move ! (1 ∷ 0 ∷ []) $ join ! $ move ! (1 ∷ 0 ∷ []) $ join ! $ move ! (1 ∷ 0 ∷ []) $ join ! $ frame ! $ nothing ! $ owned ! u64 (Is u64) (uint-makes 𝓤 H A W w64) n2 _ (refl, f2) $ fjoin ! $ owned ! u32 (Is u32) (uint-makes 𝓤 H A W w32) n1 _ (refl, f1) $ fjoin ! $ owned ! usize (Is usize) (uint-makes 𝓤 H A W w64) n0 _ (refl, f0) $ fjoin ! $ move ! (8 ∷ 0 ∷ []) $ fjoin ! $ move ! (7 ∷ 0 ∷ []) $ fjoin ! $ move ! (6 ∷ 0 ∷ []) $ fjoin ! $ move ! (5 ∷ 0 ∷ []) $ fjoin ! $ move ! (4 ∷ 0 ∷ []) $ fjoin ! $ move ! (3 ∷ 0 ∷ []) $ fjoin ! $ move ! (2 ∷ 0 ∷ []) $ fjoin ! $ move ! (1 ∷ 0 ∷ []) $ fjoin ! $ done !
+  goes f0 f1 f2 ν0 ν1 δ0 δ1 =
+      qed W ((‵ (flft κ0 q0) ⊛ ‵ (flft κ1 q1) ⊛ ‵ (flft κ2 q2) ⊛ ‵ (flft κ3 q3) ⊛ ‵ (flft κ4 q4) ⊛ ‵ (flft κ5 q5) ⊛ ‵ ftrue) ∷ ‵ (flft (ν0 ∷ []) fullShare) ∷ ‵ (flft (ν1 ∷ []) fullShare) ∷ ‵ Code0 ∷ ‵ Code1 ∷ ‵ Code2 ∷ ‵ Code3 ∷ ‵ Code4 ∷ ‵ Code5 ∷ ‵ (MutRef (named 6) (ν0 ∷ []) A0 .own (x0 δ0 y0) (v0 ∷ [])) ∷ ‵ (MutRef (named 7) (ν1 ∷ []) A1 .own (x1 δ1 y1) (v1 ∷ [])) ∷ []) ∵
+      split ! $ move ! (1 ∷ []) $ split ! $ move ! (1 ∷ []) $ split ! $ move ! (1 ∷ []) $ split ! $ move ! (1 ∷ []) $ split ! $ move ! (1 ∷ []) $ split ! $ move ! (8 ∷ 1 ∷ []) $ join ! $ move ! (7 ∷ 0 ∷ []) $ join ! $ move ! (1 ∷ 0 ∷ []) $ join ! $ move ! (1 ∷ 0 ∷ []) $ join ! $ move ! (1 ∷ 0 ∷ []) $ join ! $ move ! (1 ∷ 0 ∷ []) $ join ! $ move ! (1 ∷ 0 ∷ []) $ join ! $ move ! (1 ∷ 0 ∷ []) $ join ! $ nothing ! $ owned ! u64 (Is u64) (uint-makes 𝓤 H A W w64) n2 _ (refl, f2) $ fjoin ! $ owned ! u32 (Is u32) (uint-makes 𝓤 H A W w32) n1 _ (refl, f1) $ fjoin ! $ owned ! usize (Is usize) (uint-makes 𝓤 H A W w64) n0 _ (refl, f0) $ fjoin ! $ move ! (9 ∷ 0 ∷ []) $ fjoin ! $ move ! (8 ∷ 0 ∷ []) $ fjoin ! $ move ! (7 ∷ 0 ∷ []) $ fjoin ! $ move ! (6 ∷ 0 ∷ []) $ fjoin ! $ move ! (5 ∷ 0 ∷ []) $ fjoin ! $ move ! (4 ∷ 0 ∷ []) $ fjoin ! $ move ! (3 ∷ 0 ∷ []) $ fjoin ! $ move ! (2 ∷ 0 ∷ []) $ fjoin ! $ move ! (1 ∷ 0 ∷ []) $ join ! $ frame ! $ done !
 
   exits : (r : Moved) (z0 : List ℕ) (z1 : List ℕ) → Said r z0 z1 → Is S.the-row (r .out) (out (r .out) ∷ []) → ent 𝓤 (⋆ 𝓤 H A (‵ (fobs γ (R .coded .code (h z0 z1 (r .at) (r .steps) (r .value)))) ∷ ‵ (fbor κ (Body (mem R) b o γ)) ∷ ‵ (flft κ q) ∷ ‵ (flft κ′ q′) ∷ ‵ (flft κ0 q0) ∷ ‵ (flft κ1 q1) ∷ ‵ (flft κ2 q2) ∷ ‵ (flft κ3 q3) ∷ ‵ (flft κ4 q4) ∷ ‵ (flft κ5 q5) ∷ ‵ Code0 ∷ ‵ Code1 ∷ ‵ Code2 ∷ ‵ Code3 ∷ ‵ Code4 ∷ ‵ Code5 ∷ [])) (Post (out (r .out)))
   exits r z0 z1 e is =
@@ -255,12 +255,12 @@ module _ {M : Type 1} (𝓤 : URA M) (H : Heap 𝓤) (A : Atoms 𝓤) (W : Given
         assigns ! (addr ! (from ! (hop ! (look ! 31 refl) (fld ! refl (hop ! (look-in ! 0 (sub ! 1 refl (whole !))) (stop !)))))) (from ! (stop !)) (init ! 7 refl (tt, tt)) $
         -- what the Machine owns is taken apart, and the token of the tables' lifetime is cut
         move ! (1 ∷ []) $ use1 W (given (m₀ ∷ [] ≡ m₀ ∷ []) (‵ (all-own (T.the-type α .parts) (T′.the-laws α) (x0 γ0 y0, (x1 γ1 y1, (n0, (n1, (n2, tt)))))))) (own-open 𝓤 H A W (T.the-type α) (T′.the-laws α) (x0 γ0 y0, (x1 γ1 y1, (n0, (n1, (n2, tt))))) m₀) $ learn ! (λ _. fsplit ! $ move ! (1 ∷ []) $ fsplit ! $ move ! (7 ∷ []) $ split ! $ use1 W (‵ (flft κ′ (PosShare·left q′)) ⊛ ‵ (flft κ′ (PosShare·right q′))) (W .lfts .lft-split κ′ q′) $ split ! $
-        -- table 0 is looked into, for what its numbers are, and lent again
-        move ! (5 ∷ []) $ fsplit3 ! $ drop ! $ opens ! tt A0 {h = y0} b0 o0 (λ us0. move ! (1 ∷ []) $ peeks ! A0 (Is A0) (shows 𝓤 H A A0) y0 us0 (λ seen0. move ! (1 ∷ 0 ∷ 2 ∷ 3 ∷ 4 ∷ []) $ closes ! tt A0 y0 us0 b0 o0 $ feqI ! (List Val) (v0 ∷ []) (v0 ∷ []) refl $ fjoin3 ! $ lft-new ! tt (λ ν0. move ! (1 ∷ 2 ∷ []) $ use2 W (later (some (λ (δ : GName). ‵ (MutRef (named 6) (ν0 ∷ []) A0 .own (x0 δ y0) (v0 ∷ [])) ⊛ ‵ (LentAgain A0 κ′ (ν0 ∷ []) (PosShare·left q′) γ0 b0 o0 δ y0)))) (lends-again 𝓤 H A W A0 (named 1) κ′ (ν0 ∷ []) (PosShare·left q′) γ0 b0 o0 (named 6) y0) $ await ! tt $ pick ! (λ δ0. split ! $
-        -- table 1 is looked into, for what its numbers are, and lent again
-        move ! (5 ∷ []) $ fsplit3 ! $ drop ! $ move ! (0 ∷ 1 ∷ 5 ∷ []) $ opens ! tt A1 {h = y1} b1 o1 (λ us1. move ! (1 ∷ []) $ peeks ! A1 (Is A1) (shows 𝓤 H A A1) y1 us1 (λ seen1. move ! (1 ∷ 0 ∷ 2 ∷ 3 ∷ 4 ∷ []) $ closes ! tt A1 y1 us1 b1 o1 $ feqI ! (List Val) (v1 ∷ []) (v1 ∷ []) refl $ fjoin3 ! $ lft-new ! tt (λ ν1. move ! (1 ∷ 2 ∷ []) $ use2 W (later (some (λ (δ : GName). ‵ (MutRef (named 7) (ν1 ∷ []) A1 .own (x1 δ y1) (v1 ∷ [])) ⊛ ‵ (LentAgain A1 κ′ (ν1 ∷ []) (PosShare·right q′) γ1 b1 o1 δ y1)))) (lends-again 𝓤 H A W A1 (named 1) κ′ (ν1 ∷ []) (PosShare·right q′) γ1 b1 o1 (named 7) y1) $ await ! tt $ pick ! (λ δ1. split ! $ move ! (12 ∷ []) $ fsplit ! $ use1 W (‵ Code0 ⊛ ‵ Code0) (shr-copy 𝓤 H A W (named 2) κ0 C0 .twice p0 (s0 ∷ [])) $ split ! $ move ! (2 ∷ []) $ fsplit ! $ use1 W (‵ Code1 ⊛ ‵ Code1) (shr-copy 𝓤 H A W (named 3) κ1 C1 .twice p1 (s1 ∷ [])) $ split ! $ move ! (2 ∷ []) $ fsplit ! $ use1 W (‵ Code2 ⊛ ‵ Code2) (shr-copy 𝓤 H A W (named 4) κ2 C2 .twice p2 (s2 ∷ [])) $ split ! $ move ! (2 ∷ []) $ fsplit ! $ use1 W (‵ Code3 ⊛ ‵ Code3) (shr-copy 𝓤 H A W (named 5) κ3 C3 .twice p3 (s3 ∷ [])) $ split ! $ move ! (2 ∷ []) $ fsplit ! $ use1 W (‵ Code4 ⊛ ‵ Code4) (shr-copy 𝓤 H A W (named 6) κ4 C4 .twice p4 (s4 ∷ [])) $ split ! $ move ! (2 ∷ []) $ fsplit ! $ use1 W (‵ Code5 ⊛ ‵ Code5) (shr-copy 𝓤 H A W (named 7) κ5 C5 .twice p5 (s5 ∷ [])) $ split ! $
+        -- table 0 is lent again
+        move ! (5 ∷ []) $ lft-new ! tt (λ ν0. move ! (1 ∷ 2 ∷ []) $ use2 W (later (some (λ (δ : GName). ‵ (MutRef (named 6) (ν0 ∷ []) A0 .own (x0 δ y0) (v0 ∷ [])) ⊛ ‵ (LentAgain A0 κ′ (ν0 ∷ []) (PosShare·left q′) γ0 b0 o0 δ y0)))) (lends-again 𝓤 H A W A0 (named 1) κ′ (ν0 ∷ []) (PosShare·left q′) γ0 b0 o0 (named 6) y0) $ await ! tt $ pick ! (λ δ0. split ! $
+        -- table 1 is lent again
+        move ! (5 ∷ []) $ move ! (0 ∷ 4 ∷ []) $ lft-new ! tt (λ ν1. move ! (1 ∷ 2 ∷ []) $ use2 W (later (some (λ (δ : GName). ‵ (MutRef (named 7) (ν1 ∷ []) A1 .own (x1 δ y1) (v1 ∷ [])) ⊛ ‵ (LentAgain A1 κ′ (ν1 ∷ []) (PosShare·right q′) γ1 b1 o1 δ y1)))) (lends-again 𝓤 H A W A1 (named 1) κ′ (ν1 ∷ []) (PosShare·right q′) γ1 b1 o1 (named 7) y1) $ await ! tt $ pick ! (λ δ1. split ! $ move ! (12 ∷ []) $ fsplit ! $ use1 W (‵ Code0 ⊛ ‵ Code0) (shr-copy 𝓤 H A W (named 2) κ0 C0 .twice p0 (s0 ∷ [])) $ split ! $ move ! (2 ∷ []) $ fsplit ! $ use1 W (‵ Code1 ⊛ ‵ Code1) (shr-copy 𝓤 H A W (named 3) κ1 C1 .twice p1 (s1 ∷ [])) $ split ! $ move ! (2 ∷ []) $ fsplit ! $ use1 W (‵ Code2 ⊛ ‵ Code2) (shr-copy 𝓤 H A W (named 4) κ2 C2 .twice p2 (s2 ∷ [])) $ split ! $ move ! (2 ∷ []) $ fsplit ! $ use1 W (‵ Code3 ⊛ ‵ Code3) (shr-copy 𝓤 H A W (named 5) κ3 C3 .twice p3 (s3 ∷ [])) $ split ! $ move ! (2 ∷ []) $ fsplit ! $ use1 W (‵ Code4 ⊛ ‵ Code4) (shr-copy 𝓤 H A W (named 6) κ4 C4 .twice p4 (s4 ∷ [])) $ split ! $ move ! (2 ∷ []) $ fsplit ! $ use1 W (‵ Code5 ⊛ ‵ Code5) (shr-copy 𝓤 H A W (named 7) κ5 C5 .twice p5 (s5 ∷ [])) $ split ! $
         -- the call
-        move ! (19 ∷ 18 ∷ 15 ∷ 11 ∷ 9 ∷ 7 ∷ 5 ∷ 3 ∷ 0 ∷ 16 ∷ 13 ∷ []) $ group ! 11 $ use1 W (raw (Callee 𝓤 H A at-mem run .pre (to-callee ν0 ν1 δ0 δ1))) (goes (fits0 g) (fits1 g) (fits2 g) ((words 4352 y0 us0 seen0, words 32 y1 us1 seen1)) ν0 ν1 δ0 δ1) $
+        move ! (19 ∷ 18 ∷ 15 ∷ 11 ∷ 9 ∷ 7 ∷ 5 ∷ 3 ∷ 0 ∷ 16 ∷ 13 ∷ []) $ group ! 11 $ use1 W (raw (Callee 𝓤 H A at-mem run .pre (to-callee ν0 ν1 δ0 δ1))) (goes (fits0 g) (fits1 g) (fits2 g) ν0 ν1 δ0 δ1) $
         calls-at ! fm (Callee 𝓤 H A at-mem run) known (to-callee ν0 ν1 δ0 δ1) (and-then ! (load ! (from ! (stop !)) (look ! 37 refl)) (and-then ! (load ! (from ! (stop !)) (look ! 35 refl)) (and-then ! (load ! (from ! (stop !)) (look ! 33 refl)) (and-then ! (load ! (from ! (stop !)) (look ! 31 refl)) (and-then ! (load ! (from ! (stop !)) (look ! 29 refl)) (and-then ! (load ! (from ! (stop !)) (look ! 27 refl)) (and-then ! (load ! (from ! (stop !)) (look ! 17 refl)) (and-then ! (load ! (from ! (stop !)) (look ! 15 refl)) (and-then ! (load ! (from ! (stop !)) (look ! 25 refl)) (and-then ! (load ! (from ! (stop !)) (look ! 23 refl)) (and-then ! (load ! (from ! (stop !)) (look ! 21 refl)) (no-more !)))))))))))) (λ w.
         use1 W (later (some (λ (r : Moved). ((‵ (flft κ0 q0) ⊛ ‵ (flft κ1 q1) ⊛ ‵ (flft κ2 q2) ⊛ ‵ (flft κ3 q3) ⊛ ‵ (flft κ4 q4) ⊛ ‵ (flft κ5 q5) ⊛ ‵ (flft (ν0 ∷ []) fullShare) ⊛ ‵ (flft (ν1 ∷ []) fullShare) ⊛ ‵ ftrue) ⊛ ‵ (D.the-row .own r (w ∷ []))) ⊛ raw (ensured 𝓤 H A callee.ended (callee.clauses 𝓤 H A at-mem run) (κ0, (κ1, (κ2, (κ3, (κ4, (κ5, (ν0 ∷ [], (ν1 ∷ [], tt)))))))) (passed δ0 δ1) tt r)))) (id⊢ 𝓤 _) $ await ! tt $ pick ! (λ r. split ! $ move ! (1 ∷ []) $ use1 W (some (λ (zs : Unit {0} × (Unit {0} × (Unit {0} × (Unit {0} × (Unit {0} × (Unit {0} × (List ℕ × (List ℕ × (Unit {0} × (Unit {0} × (Unit {0} × (Unit {0})))))))))))). ‵ (lasts callee.ended (κ0, (κ1, (κ2, (κ3, (κ4, (κ5, (ν0 ∷ [], (ν1 ∷ [], tt)))))))) (passed δ0 δ1) zs) ⊛ raw (fact 𝓤 (Said r (zs .1 .1 .1 .1 .1 .1 .0) (zs .1 .1 .1 .1 .1 .1 .1 .0))))) (id⊢ 𝓤 _) $ pick ! (λ zs. split ! $ move ! (1 ∷ []) $ heard ! (Said r (zs .1 .1 .1 .1 .1 .1 .0) (zs .1 .1 .1 .1 .1 .1 .1 .0)) (λ e. fsplit ! $ move ! (1 ∷ []) $ fsplit ! $ move ! (1 ∷ []) $ fsplit ! $ move ! (1 ∷ []) $ fsplit ! $ move ! (1 ∷ []) $ fsplit ! $ move ! (1 ∷ []) $ fsplit ! $ move ! (1 ∷ []) $ fsplit ! $ move ! (1 ∷ []) $ fsplit ! $ move ! (9 ∷ []) $ split ! $ move ! (1 ∷ []) $ peeks ! D.the-row (Is D.the-row) (shows 𝓤 H A D.the-row) r (w ∷ []) (λ is.
         land ! (from ! (stop !)) (init ! 29 refl (LL.lawful D.the-type D′.the-laws 𝓤 H A W .typed r _ is .0)) $ rewrite ! 29 (λ (u : Val). ‵ (fat fullShare D′.mir l₁₁ 0 u)) (ap only (LL.tells D.the-type D′.the-laws r _ is)) refl $
@@ -278,7 +278,7 @@ module _ {M : Type 1} (𝓤 : URA M) (H : Heap 𝓤) (A : Atoms 𝓤) (W : Given
         use1 W (‵ (R .own (h (zs .1 .1 .1 .1 .1 .1 .0) (zs .1 .1 .1 .1 .1 .1 .1 .0) (r .at) (r .steps) (r .value)) (mach (r .at) (r .steps) (r .value) ∷ []))) (makes 𝓤 H A W rows (had (r .at) (r .steps) (r .value) (zs .1 .1 .1 .1 .1 .1 .0) (zs .1 .1 .1 .1 .1 .1 .1 .0)) (v0 ∷ [], (v1 ∷ [], (vint w64 (r .at) ∷ [], (vint w32 (r .steps) ∷ [], (vint w64 (r .value) ∷ [], tt)))))) $ move ! (25 ∷ []) $ use1 W (‵ (cellAt fullShare (R .mir) (mach (r .at) (r .steps) (r .value) ∷ []) b o)) (W .laws .at-raw fullShare (T′.mir erased) b o (mach (r .at) (r .steps) (r .value))) $ move ! (0 ∷ 1 ∷ 26 ∷ 27 ∷ 28 ∷ []) $ closes ! tt R (h (zs .1 .1 .1 .1 .1 .1 .0) (zs .1 .1 .1 .1 .1 .1 .1 .0) (r .at) (r .steps) (r .value)) (mach (r .at) (r .steps) (r .value) ∷ []) b o $
         returns ! (look ! 53 refl) $ forget ! 27 refl $ forget ! 29 refl $ forget ! 31 refl $ forget ! 33 refl $ forget ! 35 refl $ forget ! 37 refl $ forget ! 39 refl $ forget ! 41 refl $ forget ! 43 refl $ forget ! 45 refl $ forget ! 47 refl $ forget ! 49 refl $ forget ! 51 refl $ forget ! 53 refl $
         move ! (53 ∷ 54 ∷ []) $ free1 ! $ move ! (51 ∷ 52 ∷ []) $ free1 ! $ move ! (49 ∷ 50 ∷ []) $ free1 ! $ move ! (47 ∷ 48 ∷ []) $ free1 ! $ move ! (45 ∷ 46 ∷ []) $ free1 ! $ move ! (43 ∷ 44 ∷ []) $ free1 ! $ move ! (41 ∷ 42 ∷ []) $ free1 ! $ move ! (39 ∷ 40 ∷ []) $ free1 ! $ move ! (37 ∷ 38 ∷ []) $ free1 ! $ move ! (35 ∷ 36 ∷ []) $ free1 ! $ move ! (33 ∷ 34 ∷ []) $ free1 ! $ move ! (31 ∷ 32 ∷ []) $ free1 ! $ move ! (29 ∷ 30 ∷ []) $ free1 ! $ move ! (27 ∷ 28 ∷ []) $ free1 ! $ free0 ! $
-        keep ! (0 ∷ 1 ∷ 2 ∷ 3 ∷ 10 ∷ 9 ∷ 8 ∷ 7 ∷ 6 ∷ 5 ∷ 25 ∷ 24 ∷ 23 ∷ 22 ∷ 21 ∷ 19 ∷ []) $ by ! (exits r (zs .1 .1 .1 .1 .1 .1 .0) (zs .1 .1 .1 .1 .1 .1 .1 .0) e (out-is r w is))))))))))))))))))))))))))))))))
+        keep ! (0 ∷ 1 ∷ 2 ∷ 3 ∷ 10 ∷ 9 ∷ 8 ∷ 7 ∷ 6 ∷ 5 ∷ 25 ∷ 24 ∷ 23 ∷ 22 ∷ 21 ∷ 19 ∷ []) $ by ! (exits r (zs .1 .1 .1 .1 .1 .1 .0) (zs .1 .1 .1 .1 .1 .1 .1 .0) e (out-is r w is))))))))))))))))))))))))))))
 
 module _ {M : Type 1} (𝓤 : URA M) (H : Heap 𝓤) (A : Atoms 𝓤) (W : Given 𝓤 H A) (mem : Memory → SProp 𝓤) (run : Routine → Fun 𝓤) where
   fn-walks : (C : Calls 𝓤 H) (Λ : Loops 𝓤 H) → FmC 𝓤 H (W .laws) C → Triple 𝓤 (C #callee) (Callee 𝓤 H A mem run) → Walks 𝓤 H A fn.ended stayed (WpFn 𝓤 H C Λ code.function) (fn.clauses 𝓤 H A mem run)
@@ -297,4 +297,4 @@ step-spec 𝓤 H 𝓜 𝓖 𝓡 =
     entered 𝓤 H (tripleOf 𝓤 H (𝓖 .A) fn.signature (fn.spec 𝓤 H (𝓖 .A) (𝓜 .mem) (𝓡 .run)))
     (tables 𝓤 H 𝓜 𝓡 code.env .C) (tables 𝓤 H 𝓜 𝓡 code.env .Λ) #fn code.function (code.unfolded 𝓤 H 𝓜 𝓡)
     (fn-meets 𝓤 H (𝓖 .A) (givenOf 𝓤 H 𝓜 𝓖) (𝓜 .mem) (𝓡 .run) (tablesOf 𝓤 H 𝓜 (tables 𝓤 H 𝓜 𝓡 code.env))
-    (cited 𝓤 H (Callee 𝓤 H (𝓖 .A) (𝓜 .mem) (𝓡 .run)) 𝓜 𝓡 code.env #callee callee-def.routine code.calls-machine·move-at (callee-thm.met 𝓤 H 𝓜 𝓖 𝓡)))
+    (cited 𝓤 H (Callee 𝓤 H (𝓖 .A) (𝓜 .mem) (𝓡 .run)) 𝓜 𝓡 code.env #callee callee-def.routine code.calls-moves·move-at (callee-thm.met 𝓤 H 𝓜 𝓖 𝓡)))

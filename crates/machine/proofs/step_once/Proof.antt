@@ -40,20 +40,21 @@ use denote.Triple.Statement.{Contract, Triple}
 use denote.Triple.Call.{calls-at}
 use denote.Triple.Clauses.{ensured, lasts}
 use denote.Triple.Table.{entered, cited}
-use denote.Triple.Walked.{says, Stays, stay-none, stay-none-ref, stay-ref, walkOf, goes-none, goes-none-ref, goes-ref, Walks, ends-at, walked, walk-meets}
+use denote.Triple.Walked.{says, onExit, Stays, stay-none, stay-none-ref, stay-ref, walkOf, goes-none, goes-none-ref, goes-ref, Walks, ends-at, walked, walk-meets}
 use denote.Exit.{yes}
 use denote.Signature.{plain}
 use denote.Signature.Struct.{makes}
 use Rattle.machine.specs.declared.Machine.{Machine}
-use Rattle.machine.specs.declared.Moved.{Moved}
+use Rattle.moves.specs.declared.Moved.{Moved}
 use Rattle.rules.specs.declared.Stepped.{Stepped}
 use Rattle.rules.specs.Machine.Tables.{MTables, stepWithin, saysWithin}
-use Rattle.machine.specs.Steps.{lines, parts, Steps, Moves}
+use Rattle.moves.specs.Moves.{lines, parts, Moves}
+use Rattle.machine.specs.Steps.{Steps}
 use Rattle.machine.proofs.Laws.{told-once}
 use Rattle.machine.proofs.Machine as T
 use Rattle.machine.proofs.Machine.Laws as T′
-use Rattle.machine.proofs.Moved as D
-use Rattle.machine.proofs.Moved.Laws as D′
+use Rattle.moves.proofs.Moved as D
+use Rattle.moves.proofs.Moved.Laws as D′
 use Rattle.rules.proofs.Stepped as S
 use Rattle.rules.proofs.Stepped.Laws as S′
 use Rattle.machine.proofs.Local.{within, inner, lies-in, lies-out}
@@ -228,7 +229,7 @@ module _ {M : Type 1} (𝓤 : URA M) (H : Heap 𝓤) (A : Atoms 𝓤) (W : Given
   exits : Moves0 → Is D.the-row r (given-back ∷ []) → ent 𝓤 (⋆ 𝓤 H A (‵ (R .own h₁ (m₁ ∷ [])) ∷ ‵ (flft κ (PosShare·left q)) ∷ (‵ (flft κ (PosShare·right q)) ⊛ ‵ (flft κ0 q0) ⊛ ‵ (flft κ1 q1) ⊛ ‵ (flft κ2 q2) ⊛ ‵ (flft κ3 q3) ⊛ ‵ (flft κ4 q4) ⊛ ‵ (flft κ5 q5) ⊛ ‵ ftrue) ∷ ‵ Code0 ∷ ‵ Code1 ∷ ‵ Code2 ∷ ‵ Code3 ∷ ‵ Code4 ∷ ‵ Code5 ∷ [])) (Post given-back)
   exits told is =
       qed W (‵ (R .own h₁ (m₁ ∷ [])) ∷ ‵ (flft κ (PosShare·left q)) ∷ (‵ (flft κ (PosShare·right q)) ⊛ ‵ (flft κ0 q0) ⊛ ‵ (flft κ1 q1) ⊛ ‵ (flft κ2 q2) ⊛ ‵ (flft κ3 q3) ⊛ ‵ (flft κ4 q4) ⊛ ‵ (flft κ5 q5) ⊛ ‵ ftrue) ∷ ‵ Code0 ∷ ‵ Code1 ∷ ‵ Code2 ∷ ‵ Code3 ∷ ‵ Code4 ∷ ‵ Code5 ∷ []) ∵
-      suffices ! _ (ends-at 𝓤 H A fn.ended stayed (fn.clauses 𝓤 H A at-mem run) W (((κ0, (κ1, (κ2, (κ3, (κ4, (κ5, (κ, tt))))))), (q0, (q1, (q2, (q3, (q4, (q5, (q, tt))))))), tt, a, vals), tt) given-back r (tt, (tt, (tt, (tt, (tt, (tt, (e0, (e1, (tt, (tt, (tt, tt))))))))))) (tt, (tt, (tt, (tt, (tt, (tt, (tt, (tt, (tt, (tt, (tt, tt)))))))))))) $ says ! told $
+      suffices ! _ (ends-at 𝓤 H A fn.ended stayed (fn.clauses 𝓤 H A at-mem run) W (((κ0, (κ1, (κ2, (κ3, (κ4, (κ5, (κ, tt))))))), (q0, (q1, (q2, (q3, (q4, (q5, (q, tt))))))), tt, a, vals), tt) given-back r (tt, (tt, (tt, (tt, (tt, (tt, (e0, (e1, (tt, (tt, (tt, tt))))))))))) (tt, (tt, (tt, (tt, (tt, (tt, (tt, (tt, (tt, (tt, (tt, tt)))))))))))) $ says ! {P = onExit 𝓤 H A fn.ended stayed (κ0, (κ1, (κ2, (κ3, (κ4, (κ5, (κ, tt))))))) (q0, (q1, (q2, (q3, (q4, (q5, (q, tt))))))) vals given-back r a (tt, (tt, (tt, (tt, (tt, (tt, (e0, (e1, (tt, (tt, (tt, tt)))))))))))} told $
       use1 W (given (m₁ ∷ [] ≡ m₁ ∷ []) (‵ (all-own (T.the-type α .parts) (T′.the-laws α) (x0 e0, (x1 e1, (r .at, (r .steps, (r .value, tt)))))))) (own-open 𝓤 H A W (T.the-type α) (T′.the-laws α) (x0 e0, (x1 e1, (r .at, (r .steps, (r .value, tt))))) m₁) $ learn ! (λ _. fsplit ! $ move ! (1 ∷ []) $ fsplit ! $ move ! (4 ∷ []) $ split ! $ move ! (5 ∷ 0 ∷ []) $ use2 W (‵ (flft κ q)) (W .lfts .lft-join κ q) $ move ! (1 ∷ []) $ split ! $ move ! (1 ∷ []) $ split ! $ move ! (1 ∷ []) $ split ! $ move ! (1 ∷ []) $ split ! $ move ! (1 ∷ []) $ split ! $ move ! (1 ∷ []) $ split ! $ move ! (7 ∷ 1 ∷ []) $ join ! $ move ! (1 ∷ 0 ∷ []) $ join ! $ move ! (1 ∷ 0 ∷ []) $ join ! $ move ! (1 ∷ 0 ∷ []) $ join ! $ move ! (1 ∷ 0 ∷ []) $ join ! $ move ! (1 ∷ 0 ∷ []) $ join ! $ move ! (1 ∷ 0 ∷ []) $ join ! $ frame ! $ nothing ! $ owned ! u64 (Is u64) (uint-makes 𝓤 H A W w64) n2 _ (refl, f2) $ fjoin ! $ owned ! u32 (Is u32) (uint-makes 𝓤 H A W w32) n1 _ (refl, f1) $ fjoin ! $ owned ! usize (Is usize) (uint-makes 𝓤 H A W w64) n0 _ (refl, f0) $ fjoin ! $ move ! (1 ∷ 0 ∷ []) $ fjoin ! $ move ! (2 ∷ 0 ∷ []) $ fjoin ! $ move ! (7 ∷ 0 ∷ []) $ fjoin ! $ move ! (6 ∷ 0 ∷ []) $ fjoin ! $ move ! (5 ∷ 0 ∷ []) $ fjoin ! $ move ! (4 ∷ 0 ∷ []) $ fjoin ! $ move ! (3 ∷ 0 ∷ []) $ fjoin ! $ move ! (2 ∷ 0 ∷ []) $ fjoin ! $ owned ! D.the-row (Is D.the-row) (LL.makes D.the-type D′.the-plain 𝓤 H A) r _ is $ keep ! (1 ∷ 0 ∷ []) $ done !)
 
   module _ (g : Is R h₁ (m₁ ∷ [])) where

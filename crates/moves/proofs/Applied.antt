@@ -8,8 +8,8 @@ use Rattle.rules.specs.When.{need}
 use Rattle.rules.specs.Machine.Tables.{applyT, codeOf, blockWidth}
 use Rattle.entry.specs.Codes.{writable}
 use Rattle.entry.specs.Again.{written}
-use Rattle.machine.specs.declared.Moved.{Moved}
-use Rattle.machine.specs.Steps.{parts, Ready, Applies}
+use Rattle.moves.specs.declared.Moved.{Moved}
+use Rattle.moves.specs.Moves.{parts, Ready, Applies}
 
 -- the numbers after a step that moved
 abbrev on : ℕ → ℕ → ℕ → Moved

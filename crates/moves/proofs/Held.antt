@@ -21,7 +21,7 @@ use Rattle.rules.specs.Machine.Tables.{storeOf, valsOf}
 use Rattle.entry.specs.Codes.{writable}
 use Rattle.entry.specs.Again.{Held, place-writable, read-writable}
 use Rattle.storage.proofs.Laws.{blocks-small, cells-small, cell-in, cell-out, val-in, val-out}
-use Rattle.machine.specs.Steps.{lines, Words, Ready}
+use Rattle.moves.specs.Moves.{lines, Words, Ready}
 
 -- ---- a property of what is needed of a datum: of the refusal, and of the rest
 

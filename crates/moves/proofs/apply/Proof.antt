@@ -1,9 +1,9 @@
--- `machine::apply` meets its contract. Assumes nothing.
+-- `moves::apply` meets its contract. Assumes nothing.
 use native.Mathlib.Omega.{arith}
 use borrow.Author.Needs.{needs}
-use Rattle.machine.proofs.Applied.{turned, stuck, fell, jumped, var-set, cell-set, given}
-use Rattle.machine.proofs.apply.Statement.{statement}
-use Rattle.machine.proofs.apply.Tie as tie
+use Rattle.moves.proofs.Applied.{turned, stuck, fell, jumped, var-set, cell-set, given}
+use Rattle.moves.proofs.apply.Statement.{statement}
+use Rattle.moves.proofs.apply.Tie as tie
 
 pub apply-spec : {M : Type 1} → statement M
 apply-spec =
