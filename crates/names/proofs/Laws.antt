@@ -1,14 +1,12 @@
 -- Laws of the tests of all, of the stage's parts, of the tree walk, and of a body line by its kind's number. Assumes nothing.
 use native.Mathlib.Omega.{arith as lin}
 use native.Mathlib.Decide.{decLt}
-use native.Mathlib.Numerals.{sub-one}
+use mathlib.Core.Path.{ap₂}
 use lib.ListN.{List·getD-eq-default, List·getD-map, length-map}
-use borrow.Author.Tests.{lt-ltb, le-ltb, ne-eqb}
-use Rattle.rules.specs.Prelude.{ℕ, zero, suc, _+_, _-_, _/_, _%_, _<_, _≤_, Bool, true, false, _&&_, List, [], _∷_, _++_, map, _≡_, refl, sym, ap, _∙_, eqb, length, getD, drop}
+use borrow.Author.Tests.{ne-eqb}
+use Rattle.rules.specs.Prelude.{ℕ, zero, suc, _+_, _-_, _/_, _%_, _<_, _≤_, Bool, true, false, _&&_, List, [], _∷_, _++_, map, _≡_, refl, sym, ap, _∙_, not, eqb, length, getD, drop}
 use Rattle.rules.specs.declared.Answer.{Answer}
-use Rattle.rules.specs.declared.Num.{Num}
 use Rattle.rules.specs.Numbers.{numCode}
-use Rattle.rules.specs.When.{when}
 use Rattle.rules.specs.Answers.{answer, andThen, first}
 use Rattle.rules.specs.Environments.{noVar}
 use Rattle.rules.specs.Program.{Prog, Var, Expr, Stmt, badS, setS, putS, gotoS, ifS, ifimmS, iftagS, ifintS, returnS, rowThere, varThere, labelThere, kindAt, labelAt, noEntry}
@@ -19,9 +17,9 @@ use Rattle.table.proofs.Passes.{left-more, left-none, then-on, then-no, first-a
 use Rattle.program.specs.declared.Stored.{Stored}
 use Rattle.program.specs.Lines.{storedAt}
 use Rattle.program.proofs.Laws.{vars-small, label-in, label-out, line-in, line-view}
-use Rattle.names.specs.declared.There.{There}
-use Rattle.names.specs.declared.Own.{Own}
-use Rattle.names.specs.Walk.{thereUpTo, walkThere, ownOf}
+use Rattle.program.specs.Nodes.{arity, afterOf}
+use Rattle.program.proofs.Walk.{Folds, ends-deep, ends-past, ends-leaf, ends-one, ends-two}
+use Rattle.names.specs.Walk.{formThere, moreIf, thereAt}
 
 -- ---- a test of all
 
@@ -95,63 +93,101 @@ module _ (P : Prog) (top : ℕ) (et : top ≡ nameKind P (P .ret)) where
 
 -- ---- the walk
 
--- a node's result from its own and its operands'
-abbrev spread : Own → (ℕ → There) → ℕ → There
-spread o g k =
-    when (eqb (o .operands) 0) (λ _. thereUpTo (o .there) (k + 1))
-    (λ _. when (eqb (o .operands) 1) (λ _. thereUpTo (o .there && g (k + 1) .there) (g (k + 1) .next))
-    (λ _. thereUpTo ((o .there && g (k + 1) .there) && g (g (k + 1) .next) .there) (g (g (k + 1) .next) .next)))
+folds : (P : Prog) → Folds (exprThere P) (formThere P)
+unfolding exprThere
+folds P none a p q x y ex ey = refl
+folds P litF a p q x y ex ey = refl
+folds P varF a p q x y ex ey = refl
+folds P fetchF a p q x y ex ey = sym (ex (omega lin))
+folds P intF a p q x y ex ey = sym (ex (omega lin))
+folds P valF a p q x y ex ey = ap (λ (b : Bool). rowThere (P .rows) a && b) (sym (ex (omega lin)))
+folds P stepF a p q x y ex ey = ap₂ _&&_ (sym (ex (omega lin))) (sym (ey (omega lin)))
+folds P (calc o) a p q x y ex ey = ap₂ _&&_ (sym (ex (omega lin))) (sym (ey (omega lin)))
 
-module _ (P : Prog) where
-  one-of : (b : Bool) (f : Expr → Expr) → ((x : Expr) → exprThere P (f x) ≡ (b && exprThere P x)) → (w : Walked) →
-      walkThere P (one f w) ≡ thereUpTo (b && walkThere P w .there) (walkThere P w .next)
-  one-of b f q (walked x n) = ap (λ (c : Bool). thereUpTo c n) (q x)
+-- a form with two operands names nothing itself
+two-form : (P : Prog) (o : Form) (a : ℕ) (x y : Bool) → (arity o ≡ 0 → ⊥) → (arity o ≡ 1 → ⊥) → formThere P o a x y ≡ (x && y)
+two-form P none a x y z i = absurd (z refl)
+two-form P litF a x y z i = absurd (z refl)
+two-form P varF a x y z i = absurd (z refl)
+two-form P fetchF a x y z i = absurd (i refl)
+two-form P intF a x y z i = absurd (i refl)
+two-form P valF a x y z i = absurd (i refl)
+two-form P stepF a x y z i = refl
+two-form P (calc o) a x y z i = refl
 
-  two-of : (f : Expr → Expr → Expr) → ((x y : Expr) → exprThere P (f x y) ≡ (exprThere P x && exprThere P y)) → (g : ℕ → Walked) (w : Walked) →
-      walkThere P (two f g w) ≡ thereUpTo (walkThere P w .there && walkThere P (g (walkThere P w .next)) .there) (walkThere P (g (walkThere P w .next)) .next)
-  two-of f q g (walked x n) = one-of (exprThere P x) (f x) (q x) (g n)
+-- the number tells both
+none-there : (b : Bool) (n : ℕ) → moreIf b n ≡ 0 → b ≡ false
+none-there true n e = absurd (omega (lin, e))
+none-there false n e = refl
 
-  node-is : (g : ℕ → Walked) (k : ℕ) (o : Form) (a : ℕ) → walkThere P (treeNode g k o a) ≡ spread (ownOf P o a) (λ n. walkThere P (g n)) k
-  unfolding exprThere
-  node-is g k none a = refl
-  node-is g k litF a = refl
-  node-is g k varF a = refl
-  node-is g k fetchF a = one-of true Expr.fetch (λ x. refl) (g (k + 1))
-  node-is g k intF a = one-of true Expr.int (λ x. refl) (g (k + 1))
-  node-is g k valF a = one-of (rowThere (P .rows) a) (Expr.val a) (λ x. refl) (g (k + 1))
-  node-is g k stepF a = two-of Expr.step (λ x y. refl) g (g (k + 1))
-  node-is g k (calc o) a = two-of (Expr.arith o) (λ x y. refl) g (g (k + 1))
+some-there : (b : Bool) (n : ℕ) → (moreIf b n ≡ 0 → ⊥) → (b ≡ true) × (moreIf b n - 1 ≡ n)
+some-there true n e = (refl, omega lin)
+some-there false n e = absurd (e refl)
 
-  module _ (N : List ℕ) where
-    pub at-zero : (d k : ℕ) → d ≡ 0 → thereUpTo false k ≡ walkThere P (treeAt N d k)
-    unfolding treeAt exprThere
-    at-zero d k e = rw e
+module _ (P : Prog) (N : List ℕ) (d k r : ℕ) (e : r ≡ thereAt P N d k) where
+  pub tree-not : r ≡ 0 → exprThere P (treeOf (treeAt N d k)) ≡ false
+  unfolding thereAt
+  tree-not z = none-there _ _ (sym e ∙ z)
 
-    pub at-past : (d k : ℕ) → (d ≡ 0 → ⊥) → 4096 ≤ k → thereUpTo false k ≡ walkThere P (treeAt N d k)
-    unfolding treeAt exprThere
-    at-past zero k z h = absurd (z refl)
-    at-past (suc d) k z h = rw (le-ltb k 4096 h)
+  pub tree-is : (r ≡ 0 → ⊥) → (exprThere P (treeOf (treeAt N d k)) ≡ true) × (r - 1 ≡ afterOf (treeAt N d k))
+  unfolding thereAt
+  tree-is z = rw e (some-there _ _ (λ q. z (e ∙ q)))
 
-    at-node : (d k : ℕ) → (d ≡ 0 → ⊥) → k < 4096 →
-        treeAt N d k ≡ treeNode (treeAt N (d - 1)) k (formOf (getD N k 0 / 4294967296)) (getD N k 0 % 4294967296)
-    unfolding treeAt
-    at-node zero k z h = absurd (z refl)
-    at-node (suc d) k z h = rw (lt-ltb k 4096 h, sub-one (suc d))
+  -- as a test
+  pub tree-test : not (eqb r 0) ≡ exprThere P (treeOf (treeAt N d k))
+  unfolding thereAt
+  tree-test = rw e (by (exprThere P (treeOf (treeAt N d k))))
+    where
+      by : (b : Bool) → not (eqb (moreIf b (afterOf (treeAt N d k))) 0) ≡ b
+      by true = rw (ne-eqb (afterOf (treeAt N d k) + 1) 0 (λ q. omega (lin, q)))
+      by false = refl
 
-    -- the three ways in which a walk ends: what it read, and what it called, is the tree's
-    module _ (d k op a : ℕ) (o : Own) (z : d ≡ 0 → ⊥) (h : k < 4096) (eop : op ≡ getD N k 0 / 4294967296) (ea : a ≡ getD N k 0 % 4294967296) (eo : o ≡ ownOf P (formOf op) a) where
-      ends : spread o (λ n. walkThere P (treeAt N (d - 1) n)) k ≡ walkThere P (treeAt N d k)
-      ends = rw (at-node d k z h, eo, eop, ea) (sym (node-is (treeAt N (d - 1)) k (formOf (getD N k 0 / 4294967296)) (getD N k 0 % 4294967296)))
+module _ (P : Prog) (N : List ℕ) (d k : ℕ) where
+  pub at-zero : d ≡ 0 → 0 ≡ thereAt P N d k
+  unfolding thereAt exprThere
+  at-zero e = ends-deep (exprThere P) moreIf N d k e
 
-      pub ends-leaf : o .operands ≡ 0 → thereUpTo (o .there) (k + 1) ≡ walkThere P (treeAt N d k)
-      ends-leaf q = rw q at ends
+  pub at-past : (d ≡ 0 → ⊥) → 4096 ≤ k → 0 ≡ thereAt P N d k
+  unfolding thereAt exprThere
+  at-past z h = ends-past (exprThere P) moreIf N d k z h
 
-      module _ (x : There) (l : Bool) (more : o .operands ≡ 0 → ⊥) (ex : x ≡ walkThere P (treeAt N (d - 1) (k + 1))) (el : l ≡ (o .there && x .there)) where
-        pub ends-one : o .operands ≡ 1 → thereUpTo l (x .next) ≡ walkThere P (treeAt N d k)
-        ends-one q = rw (el, ex) (rw q at ends)
+  -- the ways in which a walk goes on: what it read, and what it called, is the tree's
+  module _ (op a n : ℕ) (z : d ≡ 0 → ⊥) (h : k < 4096) (eo : op ≡ getD N k 0 / 4294967296) (ea : a ≡ getD N k 0 % 4294967296) (en : n ≡ arity (formOf op)) where
+    pub leaf-is : (b : Bool) → n ≡ 0 → ((x y : Bool) → b ≡ formThere P (formOf op) a x y) → moreIf b (k + 1) ≡ thereAt P N d k
+    unfolding thereAt
+    leaf-is b q e = ends-leaf (exprThere P) moreIf N d k (formThere P) (folds P) op a n z h eo ea en b true true q (e true true)
 
-        pub ends-two : (o .operands ≡ 1 → ⊥) → (y : There) (m : Bool) → y ≡ walkThere P (treeAt N (d - 1) (x .next)) → m ≡ (l && y .there) → thereUpTo m (y .next) ≡ walkThere P (treeAt N d k)
-        ends-two q y m ey em = rw (em, ey, el, ex) (rw (ne-eqb _ _ more, ne-eqb _ _ q) at ends)
+    module _ (x : ℕ) (ex : x ≡ thereAt P N (d - 1) (k + 1)) where
+      abbrev here : Bool
+      here = exprThere P (treeOf (treeAt N (d - 1) (k + 1)))
+
+      abbrev next : ℕ
+      next = afterOf (treeAt N (d - 1) (k + 1))
+
+      with-one : (j : Bool) → n ≡ 1 → j ≡ formThere P (formOf op) a here true → moreIf j next ≡ thereAt P N d k
+      unfolding thereAt
+      with-one j q e = ends-one (exprThere P) moreIf N d k (formThere P) (folds P) op a n z h eo ea en j here true next q refl refl e
+
+      pub one-is : n ≡ 1 → ((x y : Bool) → x ≡ formThere P (formOf op) a x y) → x ≡ thereAt P N d k
+      unfolding thereAt
+      one-is q e = ex ∙ with-one here q (e here true)
+
+      pub one-not : n ≡ 1 → ((x y : Bool) → false ≡ formThere P (formOf op) a x y) → 0 ≡ thereAt P N d k
+      one-not q e = with-one false q (e here true)
+
+      module _ (z₀ : n ≡ 0 → ⊥) (z₁ : n ≡ 1 → ⊥) where
+        with-two : (i : ℕ) → i ≡ next → (j : Bool) → j ≡ (here && exprThere P (treeOf (treeAt N (d - 1) i))) → moreIf j (afterOf (treeAt N (d - 1) i)) ≡ thereAt P N d k
+        unfolding thereAt
+        with-two i q j e =
+            ends-two (exprThere P) moreIf N d k (formThere P) (folds P) op a n z h eo ea en j here (exprThere P (treeOf (treeAt N (d - 1) i))) i (afterOf (treeAt N (d - 1) i)) z₀ z₁ refl q refl refl
+            (e ∙ sym (two-form P (formOf op) a here _ (λ p. z₀ (en ∙ p)) (λ p. z₁ (en ∙ p))))
+
+        pub two-none : x ≡ 0 → 0 ≡ thereAt P N d k
+        two-none q = with-two next refl false (rw (tree-not P N (d - 1) (k + 1) x ex q) refl)
+
+        pub two-some : (x ≡ 0 → ⊥) → (y : ℕ) → y ≡ thereAt P N (d - 1) (x - 1) → y ≡ thereAt P N d k
+        unfolding thereAt
+        two-some q y e = let w = tree-is P N (d - 1) (k + 1) x ex q in e ∙ with-two (x - 1) (w .1) (exprThere P (treeOf (treeAt N (d - 1) (x - 1)))) (rw (w .0) refl)
 
 -- ---- numbers that are no key of a list
 
@@ -236,29 +272,3 @@ stored-line N B i s e = rw e (line-view N B i)
 module _ (Z N B : List ℕ) (i n : ℕ) (e : n ≡ length (bodyFrom Z N B)) where
   pub line-there : i < n → stmtFrom N B i ≡ getD (bodyFrom Z N B) i badS
   line-there h = sym (line-in Z N B i (omega (lin, e, h)))
-
-tree-there : (P : Prog) (w : Walked) → exprThere P (treeOf w) ≡ walkThere P w .there
-tree-there P (walked x n) = refl
-
--- a line's trees, by what the walks over them found
-module _ (P : Prog) (x : There) where
-  one-there : (f : Expr → Stmt) (g : Bool → Bool) → ((y : Expr) → stmtThere P (f y) ≡ g (exprThere P y)) → (w : Walked) → x ≡ walkThere P w → stmtThere P (withOne f w) ≡ g (x .there)
-  one-there f g h (walked y n) e = h y ∙ ap (λ (z : There). g (z .there)) (sym e)
-
-  pub put-there : (N : List ℕ) (a : Num) (y : There) (w : Walked) → x ≡ walkThere P w → y ≡ walkThere P (treeAt N 16 (x .next)) →
-      stmtThere P (withTwo N (λ u v. putS u a v) w) ≡ (x .there && y .there)
-  unfolding stmtThere
-  put-there N a y (walked u n) e d = rw (tree-there P (treeAt N 16 n), d, e)
-
-  module _ (w : Walked) (e : x ≡ walkThere P w) where
-    pub set-there : (v : ℕ) → stmtThere P (withOne (setS v) w) ≡ (varThere (P .vars) v && x .there)
-    unfolding stmtThere
-    set-there v = one-there (setS v) (λ b. varThere (P .vars) v && b) (λ y. refl) w e
-
-    pub if-there : (l : ℕ) → stmtThere P (withOne (ifS l) w) ≡ (labelThere P l && x .there)
-    unfolding stmtThere
-    if-there l = one-there (ifS l) (λ b. labelThere P l && b) (λ y. refl) w e
-
-    pub return-there : stmtThere P (withOne returnS w) ≡ x .there
-    unfolding stmtThere
-    return-there = one-there returnS (λ b. b) (λ y. refl) w e

@@ -1,27 +1,25 @@
--- Whether a tree names only what exists, with the node after it; and what a node by itself adds to that. Assumes nothing.
-use Rattle.rules.specs.Prelude.{ℕ, Bool, true, false}
+-- Whether a tree names only what exists, form by form, and with the node after it as one number. Assumes nothing.
+use Rattle.rules.specs.Prelude.{ℕ, _+_, Bool, true, false, _&&_, List}
 use Rattle.rules.specs.Program.{Prog, rowThere, varThere}
-use Rattle.rules.specs.View.{Walked, walked, Form, none, litF, varF, fetchF, intF, valF, stepF, calc}
+use Rattle.rules.specs.View.{Form, none, litF, varF, fetchF, intF, valF, stepF, calc, treeOf, treeAt}
 use Rattle.rules.specs.Names.{exprThere}
-use Rattle.names.specs.declared.There.{There}
-use Rattle.names.specs.declared.Own.{Own}
+use Rattle.program.specs.Nodes.{afterOf}
 
-abbrev pub thereUpTo : Bool → ℕ → There
-thereUpTo b n = record { there = b; next = n }
+-- from a node's argument, and whether what its operands name exists
+abbrev pub formThere : Prog → Form → ℕ → Bool → Bool → Bool
+formThere P none a x y = false
+formThere P litF a x y = true
+formThere P varF a x y = varThere (P .vars) a
+formThere P fetchF a x y = x
+formThere P intF a x y = x
+formThere P valF a x y = rowThere (P .rows) a && x
+formThere P stepF a x y = x && y
+formThere P (calc o) a x y = x && y
 
-abbrev pub walkThere : Prog → Walked → There
-walkThere P (walked x n) = thereUpTo (exprThere P x) n
+-- one more than the node after a tree, and 0 where what it names does not exist
+abbrev pub moreIf : Bool → ℕ → ℕ
+moreIf true n = n + 1
+moreIf false n = 0
 
-abbrev pub own : Bool → ℕ → Own
-own b n = record { there = b; operands = n }
-
--- whether what the node names itself exists, and how many operands it has
-abbrev pub ownOf : Prog → Form → ℕ → Own
-ownOf P none a = own false 0
-ownOf P litF a = own true 0
-ownOf P varF a = own (varThere (P .vars) a) 0
-ownOf P fetchF a = own true 1
-ownOf P intF a = own true 1
-ownOf P valF a = own (rowThere (P .rows) a) 1
-ownOf P stepF a = own true 2
-ownOf P (calc o) a = own true 2
+unfoldable pub thereAt : Prog → List ℕ → ℕ → ℕ → ℕ
+thereAt P N d k = moreIf (exprThere P (treeOf (treeAt N d k))) (afterOf (treeAt N d k))

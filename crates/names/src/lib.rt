@@ -1,35 +1,24 @@
 // Answers 4 and 5 over the tables of a program, whatever they hold: a row, variable or label named that does not exist, and an int variable's entry that is not `any,0,T`.
 // A function that needs few of the tables says what holds of the program for all the others.
 ghost use mathlib.Core.Path.{_≡_};
-ghost use mathlib.Core.Bool.{_&&_};
+ghost use mathlib.Core.Bool.{Bool, _&&_};
 ghost use mathlib.Core.List.{List, [], map};
 ghost use Prim.Native.Nat.{ℕ, _<_};
 ghost use lib.ListN.{getD};
 ghost use Rattle.rules.specs.When.{need};
 ghost use Rattle.rules.specs.Answers.{first};
 ghost use Rattle.rules.specs.Program.{rowAt, labelAt};
-ghost use Rattle.rules.specs.View.{formOf, treeAt, wayOf, stmtOf, stmtFrom, rowsFrom, varsFrom, labelsFrom, bodyFrom, program};
-ghost use Rattle.rules.specs.Names.{kindThere, stmtThere, fieldsThere, productsThere, entrySuits, entriesSuit, labelSuits, nameKind, nameRow, nameVar, nameStmt, names};
+ghost use Rattle.rules.specs.View.{formOf, treeOf, treeAt, wayOf, stmtOf, stmtFrom, rowsFrom, varsFrom, labelsFrom, bodyFrom, program};
+ghost use Rattle.rules.specs.Names.{kindThere, exprThere, stmtThere, fieldsThere, productsThere, entrySuits, entriesSuit, labelSuits, nameKind, nameRow, nameVar, nameStmt, names};
 ghost use Rattle.program.specs.Lines.{tablesOf};
-ghost use Rattle.names.specs.Walk.{thereUpTo, walkThere, own, ownOf};
+ghost use Rattle.program.specs.Nodes.{arity, afterOf};
+ghost use Rattle.names.specs.Walk.{formThere, thereAt};
 use program::Stored;
 use rules::Answer;
 use rules::Boxed;
 use rules::Entry;
 use rules::Kind;
 use rules::Limits;
-
-// Whether what a tree names exists, and the node after the tree.
-struct There {
-    there: bool,
-    next: usize,
-}
-
-// Whether what a node names itself exists, and how many operands it has.
-struct Own {
-    there: bool,
-    operands: usize,
-}
 
 fn both(a: bool, b: bool) -> bool
     ensures { λ r. ⌜ r ≡ (a && b) ⌝ }
@@ -134,69 +123,81 @@ fn entries_suit(size: &[u32; 6], vars: &[u32; 96], labels: &[u64; 6208], l: usiz
 
 // ---- expressions
 
-fn found(there: bool, next: usize) -> There
-    ensures { λ r. ⌜ r ≡ thereUpTo there next ⌝ }
-{
-    There {
-        there: there,
-        next: next,
-    }
-}
-
-fn node(there: bool, operands: usize) -> Own
-    ensures { λ r. ⌜ r ≡ own there operands ⌝ }
-{
-    Own {
-        there: there,
-        operands: operands,
-    }
-}
-
-fn own_of(size: &[u32; 6], op: u32, a: usize) -> Own
-    ensures { λ o. ⌜ ((N R D L B : List ℕ) → o ≡ ownOf (program (tablesOf (now (size .entry)) N R D L B)) (formOf op) a) ⌝ }
+// Whether what a number or a variable names exists; no other operation without operands is anything.
+fn leaf_there(size: &[u32; 6], op: u32, a: usize) -> bool
+    requires { ⌜ arity (formOf op) ≡ 0 ⌝ }
+    ensures { λ b. ⌜ ((N R D L B : List ℕ) (x y : Bool) → b ≡ formThere (program (tablesOf (now (size .entry)) N R D L B)) (formOf op) a x y) ⌝ }
 {
     match op {
-        1 => node(true, 0),
-        2 => node(program::var_there(size, a), 0),
-        3 => node(true, 1),
-        4 => node(true, 1),
-        5 => node(program::row_there(size, a), 1),
-        6 => node(true, 2),
-        7 => node(true, 2),
-        8 => node(true, 2),
-        9 => node(true, 2),
-        10 => node(true, 2),
-        11 => node(true, 2),
-        _ => node(false, 0),
+        1 => true,
+        2 => program::var_there(size, a),
+        _ => false,
     }
 }
 
-// Each node before its operands: the second operand begins after the first.
-fn there_at(size: &[u32; 6], nodes: &[u64; 4096], depth: usize, at: usize) -> There
-    ensures { λ r. ⌜ ((R D L B : List ℕ) → r ≡ walkThere (program (tablesOf (now (size .entry)) (now (nodes .entry)) R D L B)) (treeAt (now (nodes .entry)) depth at)) ⌝ }
+// Whether what a form with one operand names itself exists: of these only `val` names something.
+fn one_there(size: &[u32; 6], op: u32, a: usize) -> bool
+    requires { ⌜ arity (formOf op) ≡ 1 ⌝ }
+    ensures { λ b. ⌜ ((N R D L B : List ℕ) (x y : Bool) → (b && x) ≡ formThere (program (tablesOf (now (size .entry)) N R D L B)) (formOf op) a x y) ⌝ }
+{
+    match op {
+        3 => true,
+        4 => true,
+        5 => program::row_there(size, a),
+        _ => false,
+    }
+}
+
+// One more than the node after a tree that names only what exists, and 0 for any other: so a walk gives one number.
+fn there_at(size: &[u32; 6], nodes: &[u64; 4096], depth: usize, at: usize) -> usize
+    ensures { λ r. ⌜ ((R D L B : List ℕ) → r ≡ thereAt (program (tablesOf (now (size .entry)) (now (nodes .entry)) R D L B)) (now (nodes .entry)) depth at) ⌝ }
 {
     if depth == 0 {
-        return found(false, at);
+        return 0;
     }
     if Limits::NODES <= at {
-        return found(false, at);
+        return 0;
     }
     let op = program::operation(nodes, at);
     let a = program::argument(nodes, at) as usize;
-    let o = own_of(size, op, a);
-    let n = o.operands;
-    let own = o.there;
+    let n = program::operands(op);
+    let first = at + 1;
     if n == 0 {
-        return found(own, at + 1);
+        if leaf_there(size, op, a) {
+            return first + 1;
+        }
+        return 0;
     }
-    let x = there_at(size, nodes, depth - 1, at + 1);
-    let left = both(own, x.there);
-    let after = x.next;
+    let x = there_at(size, nodes, depth - 1, first);
     if n == 1 {
-        return found(left, after);
+        if one_there(size, op, a) {
+            return x;
+        }
+        return 0;
     }
-    let y = there_at(size, nodes, depth - 1, after);
-    found(both(left, y.there), y.next)
+    if x == 0 {
+        return 0;
+    }
+    let second = x - 1;
+    there_at(size, nodes, depth - 1, second)
+}
+
+fn tree_there(size: &[u32; 6], nodes: &[u64; 4096], k: usize) -> bool
+    ensures { λ b. ⌜ ((R D L B : List ℕ) → b ≡ exprThere (program (tablesOf (now (size .entry)) (now (nodes .entry)) R D L B)) (treeOf (treeAt (now (nodes .entry)) 16 k))) ⌝ }
+{
+    there_at(size, nodes, Limits::DEPTH, k) != 0
+}
+
+// The two trees of a `put`: the second begins after the first.
+fn trees_there(size: &[u32; 6], nodes: &[u64; 4096], k: usize) -> bool
+    ensures { λ b. ⌜ ((R D L B : List ℕ) → b ≡ (exprThere (program (tablesOf (now (size .entry)) (now (nodes .entry)) R D L B)) (treeOf (treeAt (now (nodes .entry)) 16 k)) && exprThere (program (tablesOf (now (size .entry)) (now (nodes .entry)) R D L B)) (treeOf (treeAt (now (nodes .entry)) 16 (afterOf (treeAt (now (nodes .entry)) 16 k)))))) ⌝ }
+{
+    let x = there_at(size, nodes, Limits::DEPTH, k);
+    if x == 0 {
+        return false;
+    }
+    let next = x - 1;
+    tree_there(size, nodes, next)
 }
 
 // ---- lines
@@ -219,19 +220,14 @@ fn stmt_there(
     let n = program::var_count(size);
     let var = v < n;
     match kind {
-        1 => both(var, there_at(size, nodes, Limits::DEPTH, k).there),
-        2 => {
-            let x = there_at(size, nodes, Limits::DEPTH, k);
-            let after = x.next;
-            let y = there_at(size, nodes, Limits::DEPTH, after);
-            both(x.there, y.there)
-        }
+        1 => both(var, tree_there(size, nodes, k)),
+        2 => trees_there(size, nodes, k),
         3 => label,
-        4 => both(label, there_at(size, nodes, Limits::DEPTH, k).there),
+        4 => both(label, tree_there(size, nodes, k)),
         5 => both(label, var),
         6 => both(label, var),
         7 => both(label, var),
-        8 => there_at(size, nodes, Limits::DEPTH, k).there,
+        8 => tree_there(size, nodes, k),
         9 => label,
         _ => false,
     }

@@ -1,0 +1,17 @@
+use Rattle.names.proofs.Laws.{tree-not, tree-is}
+use Rattle.program.specs.Lines.{tablesOf}
+use Rattle.rules.specs.View.{program}
+use mathlib.Core.Path.{refl, sym}
+use borrow.Author.Needs.{needs}
+use Rattle.names.proofs.trees_there.Statement.{statement}
+use Rattle.names.proofs.trees_there.Tie as tie
+
+pub trees-there-spec : {M : Type 1} → statement M
+trees-there-spec =
+    tie.close
+    (tie.spec
+    (λ c κs. search needs)  -- there-at-requires
+    (λ c. λ R D L B. let a = c .before .before .args in rw (tree-not (program (tablesOf (a .size .now) (a .nodes .now) R D L B)) (a .nodes .now) 16 (a .k) _ (c .before .there-at .ensures R D L B) (c .if1 .taken)) refl)  -- returns
+    (λ c. search needs)  -- sub-next
+    (λ c κs. search needs)  -- tree-there-requires
+    (λ c. λ R D L B. let a = c .before .before .before .args in let w = tree-is (program (tablesOf (a .size .now) (a .nodes .now) R D L B)) (a .nodes .now) 16 (a .k) _ (c .before .before .there-at .ensures R D L B) (c .before .if1 .left) in rw (w .0, sym (w .1)) (c .tree-there .ensures R D L B)))  -- returns-2
