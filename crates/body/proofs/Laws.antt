@@ -1,13 +1,11 @@
 -- Labels that are there, a body line by the number of its kind, the loops over the lines, and the last line, in the words of the tables. Assumes nothing.
 use mathlib.Core.Path.{_≡_, refl, sym, ap, _∙_}
 use mathlib.Core.Bool.{Bool, true, false}
-use mathlib.Core.List.{List, [], _∷_, _++_, map}
+use mathlib.Core.List.{List, [], _∷_, map}
 use Prim.Native.Nat.{ℕ, suc, _+_, _-_, _<_, _≤_}
 use native.Mathlib.Omega.{arith as lin}
-use native.Mathlib.Numerals.{add-one}
-use lib.Dec.{eqb}
 use lib.ListN.{length, getD, drop, length-map, drop-of-length-le}
-use lib.Seq.{drop-cons, set-out}
+use lib.Seq.{set-out}
 use borrow.Author.Tests.{ne-eqb}
 use Rattle.rules.specs.declared.Env.{Env}
 use Rattle.rules.specs.declared.Entry.{Entry}
@@ -24,6 +22,7 @@ use Rattle.rules.specs.View.{tab, treeOf, treeAt, Way, noW, setW, putW, gotoW, 
 use Rattle.rules.specs.Typing.{tyVar, type}
 use Rattle.rules.specs.Environments.{coversEnv, covers, withEntry, startEnv}
 use Rattle.rules.specs.Body.{refuse, ruleSet, rulePut, ruleGoto, ruleIf, ruleIfimm, ruleIftag, ruleIfint, ruleReturn, reached, lineOf, localLine, lastOf, isEnd}
+use Rattle.table.proofs.Passes.{first-append}
 use Rattle.program.specs.declared.Stored.{Stored}
 use Rattle.coded.specs.Coded.{entryIn, envOf}
 use Rattle.program.specs.Lines.{storedAt}
@@ -126,21 +125,6 @@ first-none : (line : ℕ) → first line [] ≡ accepted
 unfolding first
 first-none line = refl
 
--- what a loop over the elements of a list has left
-module _ {A : Type 0} (g : A → ℕ) (l : List A) (d : A) (line i : ℕ) where
-  pub left-end : length l ≤ i → first (line + i) (map g (drop i l)) ≡ accepted
-  left-end h = rw (drop-of-length-le l {i = i} h) (first-none (line + i))
-
-  module _ (a : ℕ) (h : i < length l) (e : a ≡ g (getD l i d)) where
-    left-is : map g (drop i l) ≡ a ∷ map g (drop (i + 1) l)
-    left-is = rw (add-one i, e, drop-cons l i d h)
-
-    pub left-on : a ≡ 0 → first (line + i) (map g (drop i l)) ≡ first (line + (i + 1)) (map g (drop (i + 1) l))
-    left-on z = let q : line + (i + 1) ≡ line + i + 1 = omega lin in rw (left-is, q) (first-on (line + i) a _ z)
-
-    pub left-no : (a ≡ 0 → ⊥) → first (line + i) (map g (drop i l)) ≡ answer a (line + i)
-    left-no z = rw left-is (first-no (line + i) a _ z)
-
 pub locals-start : (Z R D : List ℕ) (r : ℕ) → r ≡ length (rowsFrom Z R) →
     first (2 + r + 0) (map (localLine (rowsFrom Z R)) (drop 0 (varsFrom Z D))) ≡ first (2 + length (rowsFrom Z R)) (map (localLine (rowsFrom Z R)) (varsFrom Z D))
 locals-start Z R D r e = let q : 2 + r + 0 ≡ 2 + length (rowsFrom Z R) = omega (lin, e) in rw q
@@ -175,23 +159,11 @@ lines-start t r v Γ er ev eg =
 
 -- ---- one stage of lines, then the next
 
-both-by : (line a : ℕ) (xs ys : List ℕ) (c : Bool) → eqb a 0 ≡ c →
-    first (line + 1) (xs ++ ys) ≡ when (passes (first (line + 1) xs)) (λ _. first (line + 1 + length xs) ys) (λ _. first (line + 1) xs) →
-    first line (a ∷ (xs ++ ys)) ≡ when (passes (first line (a ∷ xs))) (λ _. first (line + suc (length xs)) ys) (λ _. first line (a ∷ xs))
-unfolding first
-both-by line a xs ys true q h = let s : line + suc (length xs) ≡ line + 1 + length xs = omega lin in rw (q, s) h
-both-by line a xs ys false q h = rw (q, q)
-
-both : (line : ℕ) (xs ys : List ℕ) → first line (xs ++ ys) ≡ when (passes (first line xs)) (λ _. first (line + length xs) ys) (λ _. first line xs)
-unfolding first
-both line [] ys = let s : line + 0 ≡ line = omega lin in rw s
-both line (a ∷ xs) ys = both-by line a xs ys (eqb a 0) refl (both (line + 1) xs ys)
-
 pub types-parts : (t : Tables) → typesIn t ≡ when (passes (localsIn t)) (λ _. linesIn t) (λ _. localsIn t)
 unfolding typesIn localsIn linesIn
 types-parts t =
     let f = localLine (rowsFrom (t .size) (t .rows)) in
-    both (2 + length (rowsFrom (t .size) (t .rows))) (map f (varsFrom (t .size) (t .vars))) (numbersIn t (bodyFrom (t .size) (t .nodes) (t .body)) true (startEnv (varsFrom (t .size) (t .vars))))
+    first-append (2 + length (rowsFrom (t .size) (t .rows))) (map f (varsFrom (t .size) (t .vars))) (numbersIn t (bodyFrom (t .size) (t .nodes) (t .body)) true (startEnv (varsFrom (t .size) (t .vars))))
     ∙ rw (length-map (varsFrom (t .size) (t .vars)) f)
 
 -- ---- the last line

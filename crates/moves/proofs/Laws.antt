@@ -9,7 +9,7 @@ use Rattle.rules.specs.declared.Stepped.{Stepped}
 use Rattle.rules.specs.declared.Stepped.the-variants as T
 use Rattle.rules.specs.View.{varsFrom, program}
 use Rattle.rules.specs.Machine.{decide, saysAct, says}
-use Rattle.rules.specs.Machine.Tables.{MTables, datumCode, applyT, storeOf, valsOf, machine, stepT, stepWithin, saysWithin}
+use Rattle.rules.specs.Machine.Tables.{datumCode, applyT, storeOf, valsOf, machine, stepT, stepWithin, saysWithin}
 use Rattle.moves.specs.declared.Moved.{Moved}
 use Rattle.moves.specs.Moves.{lines, parts, Moves, Applies}
 

@@ -9,9 +9,9 @@ use Rattle.rules.specs.declared.Answer.{Answer}
 use Rattle.rules.specs.Numbers.{numCode}
 use Rattle.rules.specs.Answers.{answer, andThen, first}
 use Rattle.rules.specs.Environments.{noVar}
-use Rattle.rules.specs.Program.{Prog, Var, Expr, Stmt, badS, setS, putS, gotoS, ifS, ifimmS, iftagS, ifintS, returnS, rowThere, varThere, labelThere, kindAt, labelAt, noEntry}
-use Rattle.rules.specs.View.{tab, varsFrom, labelsFrom, labelFrom, entryFrom, Walked, walked, one, two, Form, none, litF, varF, fetchF, intF, valF, stepF, calc, formOf, treeNode, treeAt, Way, noW, setW, putW, gotoW, ifW, ifimmW, iftagW, ifintW, returnW, labelW, wayOf, treeOf, withOne, withTwo, stmtOf, stmtFrom, bodyFrom}
-use Rattle.rules.specs.Names.{exprThere, stmtThere, fieldsThere, productsThere, entrySuits, entriesSuit, nameKind, nameRow, nameVar, nameStmt, names}
+use Rattle.rules.specs.Program.{Prog, Var, Expr, Stmt, badS, setS, putS, gotoS, ifS, ifimmS, iftagS, ifintS, returnS, rowThere, kindAt, labelAt, noEntry}
+use Rattle.rules.specs.View.{tab, varsFrom, labelsFrom, labelFrom, entryFrom, Walked, walked, Form, none, litF, varF, fetchF, intF, valF, stepF, calc, formOf, treeAt, Way, noW, setW, putW, gotoW, ifW, ifimmW, iftagW, ifintW, returnW, labelW, wayOf, treeOf, withOne, withTwo, stmtOf, stmtFrom, bodyFrom}
+use Rattle.rules.specs.Names.{exprThere, fieldsThere, productsThere, entrySuits, entriesSuit, nameKind, nameRow, nameVar, nameStmt, names}
 use Rattle.rules.specs.Laws.Lists.{tab-length, tab-in}
 use Rattle.table.proofs.Passes.{left-more, left-none, then-on, then-no, first-append}
 use Rattle.program.specs.declared.Stored.{Stored}
@@ -206,10 +206,6 @@ Others (suc n) k = Others n k × (k ≡ suc n → ⊥)
 others : (n k : ℕ) → Others n k → k < suc n → k ≡ 0
 others zero k o h = omega lin
 others (suc n) k o h = others n k (o .0) (omega (lin, o .1))
-
-pub form-none : (k : ℕ) → Others 11 k → formOf k ≡ none
-unfolding formOf
-form-none k o = let z = others 11 k o in rw beyond
 
 pub way-none : (k : ℕ) → Others 9 k → wayOf k ≡ noW
 unfolding wayOf

@@ -3,9 +3,9 @@ use native.Mathlib.Numerals.{sub-one}
 use native.Mathlib.Nat.{suc-mul}
 use native.Mathlib.Omega.{arith}
 use borrow.Author.Tests.{lt-ltb, le-ltb, eq-eqb, ne-eqb}
-use Rattle.rules.specs.Prelude.{ℕ, zero, suc, _+_, _-_, _*_, _≤_, _<_, List, _≡_, refl, ltb, length, set}
+use Rattle.rules.specs.Prelude.{ℕ, zero, suc, _+_, _-_, _*_, _≤_, _<_, List, _≡_, refl, set}
 use Rattle.rules.specs.declared.Head.{Head}
-use Rattle.rules.specs.declared.Head.the-variants.{Node, Not}
+use Rattle.rules.specs.declared.Head.the-variants.{Node}
 use Rattle.rules.specs.declared.Filling.the-variants as F
 use Rattle.rules.specs.Text.Words.{byteAt, arity, headAt}
 use Rattle.rules.specs.Text.Fill.{Out, out, onward}

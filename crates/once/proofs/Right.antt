@@ -2,7 +2,7 @@
 use mathlib.Core.Logic.{⊎-elim}
 use native.Mathlib.Omega.{arith}
 use borrow.Author.Tests.{ltb-true, eqb-true, eq-eqb}
-use Rattle.rules.specs.Prelude.{ℕ, zero, suc, _+_, _≤_, _<_, Bool, true, false, List, _≡_, refl, ap, subst, sym, _∙_, ltb, eqb}
+use Rattle.rules.specs.Prelude.{ℕ, _+_, _<_, Bool, true, false, List, _≡_, refl, ap, sym, _∙_, ltb, eqb}
 use Rattle.rules.specs.declared.Count.{Count}
 use Rattle.rules.specs.declared.Reading.{Reading}
 use Rattle.rules.specs.declared.Reading.the-variants.{Got, Bad}

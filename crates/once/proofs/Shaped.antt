@@ -1,8 +1,8 @@
 -- An expression that is read once has the right shape and is written as the rules say; one that is not has a wrong shape, or passes a limit. Assumes nothing.
 use mathlib.Core.Logic.{_⊎_, inl, inr, ⊎-elim}
 use native.Mathlib.Omega.{arith}
-use borrow.Author.Tests.{ltb-true, ltb-false, eqb-true, ne-eqb}
-use Rattle.rules.specs.Prelude.{ℕ, zero, suc, _+_, _-_, _*_, _≤_, _<_, Bool, true, false, List, _≡_, refl, ap, subst, sym, _∙_, ltb, eqb, length, set}
+use borrow.Author.Tests.{eqb-true, ne-eqb}
+use Rattle.rules.specs.Prelude.{ℕ, zero, suc, _+_, _-_, _*_, _≤_, Bool, true, false, List, _≡_, refl, subst, _∙_, ltb, eqb, length, set}
 use Rattle.rules.specs.declared.Head.{Head}
 use Rattle.rules.specs.declared.Head.the-variants.{Node, Not}
 use Rattle.rules.specs.declared.Next.{Next}
@@ -11,7 +11,7 @@ use Rattle.rules.specs.declared.Filling.the-variants as F
 use Rattle.rules.specs.When.{when}
 use Rattle.rules.specs.Laws.Tests.{by-when}
 use Rattle.rules.specs.Text.Words.{byteAt, byteIs, arity, headAt}
-use Rattle.rules.specs.Text.Shape.{over, space, exprsShape, exprShape}
+use Rattle.rules.specs.Text.Shape.{space, exprsShape, exprShape}
 use Rattle.rules.specs.Text.Fill.{Out, out, onward, operands, node, expression}
 use Rattle.text.proofs.Laws.{head-read}
 use Rattle.once.specs.Once.{operandsOnce, nodeOnce, exprOnce}
@@ -61,11 +61,6 @@ module _ (s : List ℕ) where
     head-goes {op} h need (suc l) b =
         let q : need + 1 + arity op - 1 ≡ need + arity op = omega arith in
         (l, omega (arith, head-read s at h .starts), rw (h, q))
-
-    head-stops : {p : ℕ} → headAt s at ≡ Not p → Stops at
-    unfolding exprsShape
-    head-stops h need zero b = (at, refl)
-    head-stops {p} h need (suc l) b = (p, rw h)
 
     with-head : {op a n : ℕ} → headAt s at ≡ Node op a n → (o e : Out) → TellsOn (arity op) n o e → Tells at o e
     with-head h (out (F.Got m free) N) e (q, g) = (

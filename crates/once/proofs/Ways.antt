@@ -1,6 +1,6 @@
 -- Lines: one law for each way through their code. Assumes nothing.
 use borrow.Author.Tests.{lt-ltb, le-ltb, eq-eqb, ne-eqb}
-use Rattle.rules.specs.Prelude.{ℕ, _+_, _≤_, _<_, true, false, List, _≡_, refl, sym, ap, _∙_}
+use Rattle.rules.specs.Prelude.{ℕ, _+_, _≤_, _<_, false, List, _≡_, refl, sym, ap, _∙_}
 use Rattle.rules.specs.declared.Reading.{Reading}
 use Rattle.rules.specs.declared.Reading.the-variants.{Got, Bad}
 use Rattle.rules.specs.declared.Filling.{Filling}

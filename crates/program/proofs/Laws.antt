@@ -5,7 +5,6 @@ use mathlib.Core.Path.{_≡_, refl, sym, ap, _∙_}
 use mathlib.Core.List.{List, [], _∷_}
 use Prim.Native.Nat.{ℕ, _+_, _-_, _*_, _<_, _≤_}
 use lib.ListN.{length, getD, drop, replicate, List·getD-eq-default}
-use Rattle.rules.specs.declared.Psi.the-variants.{Upto}
 use Rattle.rules.specs.declared.Kind.the-variants.{Cint}
 use Rattle.rules.specs.Limits.{limits}
 use Rattle.rules.specs.Program.{Row, Var, Label, Rows, badS, noEntry, rowAt, psiOf, prodsOf, fieldsOf, fieldOf, kindAt, labelAt}
@@ -46,11 +45,6 @@ module _ (Z : List ℕ) where
   lines-small N B = rw (line-count N B) (upTo-le 512 _)
 
 -- ---- rows
-
--- what is absent has nothing in it, whatever the rows are
-pub psi-out : (ρ : Rows) (r : ℕ) → length ρ ≤ r → psiOf ρ r ≡ Upto 0
-unfolding psiOf rowAt
-psi-out ρ r h = ap (λ (x : Row). x .psi) (List·getD-eq-default ρ _ h)
 
 pub prods-out : (ρ : Rows) (r : ℕ) → length ρ ≤ r → prodsOf ρ r ≡ 0
 unfolding prodsOf rowAt

@@ -1,3 +1,4 @@
+-- What the proofs of several functions use.
 mod Covers
 pub mod LabelLines
 pub mod Laws

@@ -1,3 +1,4 @@
+-- The definitions that this crate's contracts name, and the laws about them.
 pub mod Lines
 pub mod Labels
 pub mod Nodes

@@ -3,7 +3,7 @@ use mathlib.Core.Logic.{⊎-elim}
 use native.Mathlib.Nat.{eq-zero-or-pos}
 use native.Mathlib.Omega.{arith}
 use borrow.Author.Tests.{ltb-true, eqb-true, eq-eqb, ne-eqb}
-use Rattle.rules.specs.Prelude.{ℕ, _+_, _-_, _*_, _≤_, _<_, max, Bool, true, false, _&&_, _||_, List, _≡_, refl, sym, ap, subst, _∙_, ltb, eqb, length, set}
+use Rattle.rules.specs.Prelude.{ℕ, _+_, _-_, _*_, _≤_, _<_, max, Bool, true, false, _&&_, _||_, List, _≡_, refl, ap, _∙_, ltb, eqb, length, set}
 use Rattle.rules.specs.declared.Answer.{Answer}
 use Rattle.rules.specs.declared.Count.{Count}
 use Rattle.rules.specs.declared.Reading.{Reading}
@@ -16,8 +16,8 @@ use Rattle.rules.specs.Text.{TextOut, Lined, lined, limited, shaped, keyed, lin
 use Rattle.rules.specs.Text.Words.{byteAt, valueOf, nextOf, plainAt, numberAt, varAt}
 use Rattle.rules.specs.Text.Shape.{Key, noKey, retK, typeK, paramK, localK, setK, putK, gotoK, ifK, ifimmK, iftagK, ifintK, returnK, labelK, kindWord, psiAt, keyOf, keyAt, lineShape, inOrder}
 use Rattle.rules.specs.Text.Layout.{Tables, rowWidth}
-use Rattle.rules.specs.Text.Fill.{Filled, filled, Out, out, expression, kindValue, kindNext, addVar, Fields, fields, fillRet, fillParam, fillLocal, fillProducts, addRow, fillType, plainLine, exprLine, fillSet, fillPutTwo, fillPut, fillGoto, fillIf, fillIfimm, fillTest, fillReturn, addLabel, fillLabel, oneMore, fillLine}
-use Rattle.text.proofs.Laws.{inside, Reads, value-most, next-most, got, plain-reads}
+use Rattle.rules.specs.Text.Fill.{Filled, filled, Out, out, expression, kindValue, kindNext, addVar, Fields, fields, fillRet, fillParam, fillLocal, fillProducts, addRow, fillType, plainLine, exprLine, fillSet, fillPutTwo, fillPut, fillGoto, fillIf, fillIfimm, fillTest, fillReturn, fillLabel, oneMore, fillLine}
+use Rattle.text.proofs.Laws.{inside, Reads, value-most, next-most}
 use Rattle.shape.proofs.Laws.{kind-reads}
 use Rattle.program.specs.Lines.{tablesOf}
 use Rattle.reader.specs.Read.{Placed, Near, Worded, Fits, Within, Holds}

@@ -1,7 +1,7 @@
 -- Lines with expressions: read at once, or refused by their shape or a limit; and what of a line counts for those after it. Assumes nothing.
 use native.Mathlib.Omega.{arith}
 use borrow.Author.Tests.{eq-eqb, ne-eqb}
-use Rattle.rules.specs.Prelude.{ℕ, zero, suc, _+_, _≤_, _<_, Bool, true, false, List, _≡_, refl, sym, ap, subst, _∙_, eqb, length}
+use Rattle.rules.specs.Prelude.{ℕ, _+_, _≤_, _<_, Bool, true, false, List, _≡_, refl, sym, ap, subst, _∙_, eqb, length}
 use Rattle.rules.specs.declared.Count.{Count}
 use Rattle.rules.specs.declared.Next.{Next}
 use Rattle.rules.specs.declared.Next.the-variants as N

@@ -2,7 +2,7 @@
 use native.Mathlib.Numerals.{sub-one}
 use native.Mathlib.Omega.{arith}
 use borrow.Author.Tests.{lt-ltb, le-ltb, eq-eqb, ne-eqb}
-use Rattle.rules.specs.Prelude.{ℕ, zero, suc, _+_, _-_, _*_, _≤_, _<_, Bool, true, false, _&&_, _||_, List, _≡_, refl, sym, ap, subst, _∙_, ltb, eqb, length, set}
+use Rattle.rules.specs.Prelude.{ℕ, zero, suc, _+_, _-_, _*_, _≤_, _<_, Bool, true, false, _&&_, _||_, List, _≡_, refl, sym, ap, _∙_, ltb, eqb, length, set}
 use Rattle.rules.specs.declared.Answer.{Answer}
 use Rattle.rules.specs.declared.Count.{Count}
 use Rattle.rules.specs.declared.Reading.{Reading}

@@ -2,16 +2,15 @@
 use Prim.Native.Nat.{ℕ, _+_, _≤_, _<_, max}
 use mathlib.Core.Path.{_≡_}
 use mathlib.Core.List.{List}
-use mathlib.Core.Bool.{Bool, false}
+use mathlib.Core.Bool.{false}
 use lib.Dec.{eqb}
 use lib.ListN.{length}
 use Rattle.rules.specs.declared.Answer.{Answer}
 use Rattle.rules.specs.declared.Count.{Count}
-use Rattle.rules.specs.declared.Reading.{Reading}
 use Rattle.rules.specs.When.{when}
 use Rattle.rules.specs.Limits.{limits}
 use Rattle.rules.specs.declared.Next.the-variants as N
-use Rattle.rules.specs.Text.Words.{byteAt, valueOf, nextOf}
+use Rattle.rules.specs.Text.Words.{byteAt}
 use Rattle.rules.specs.Text.Shape.{keyOf, lineShape}
 use Rattle.rules.specs.Text.Layout.{Tables, nothing, zeros}
 use Rattle.rules.specs.Text.Fill.{fillLine}

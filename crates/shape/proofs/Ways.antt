@@ -14,7 +14,7 @@ use Rattle.rules.specs.declared.Head.{Head}
 use Rattle.rules.specs.declared.Head.the-variants.{Node, Not}
 use Rattle.rules.specs.Bytes.{bytes}
 use Rattle.rules.specs.Laws.Tests.{by-when}
-use Rattle.rules.specs.Text.Words.{byteAt, plainAt, orWord, byteIs, arity, headAt}
+use Rattle.rules.specs.Text.Words.{byteAt, plainAt, byteIs, arity, headAt}
 use Rattle.rules.specs.Text.Shape.{after, over, end, space, needed, exprOn, exprsShape, psiOr, fieldsOn, fieldsShape, anyOr, entryShape, moreEntries, labelShape, noKey, keyAt, keyOf}
 use Rattle.text.proofs.Chain.{only, chain, chain-by}
 use Rattle.shape.specs.Raised.{raised}

@@ -1,0 +1,1 @@
+-- The definitions that this crate's contracts name, and the laws about them.

@@ -3,7 +3,7 @@ use Prim.Native.Nat.{zero-le}
 use native.Mathlib.Omega.{arith}
 use lib.Dec.{T}
 use borrow.Author.Tests.{leb-true, ltb-false, eqb-true, eqb-false}
-use Rattle.rules.specs.Prelude.{ℕ, zero, suc, _+_, _*_, _<_, _≤_, true, _||_, List, _≡_, sym, subst, ltb, leb, eqb, length}
+use Rattle.rules.specs.Prelude.{ℕ, zero, suc, _+_, _*_, _<_, _≤_, _||_, List, _≡_, sym, subst, ltb, leb, eqb, length}
 use Rattle.rules.specs.declared.Reading.{Reading}
 use Rattle.rules.specs.declared.Reading.the-variants.{Got, Bad}
 use Rattle.rules.specs.declared.StoreCount.{StoreCount}
@@ -11,7 +11,7 @@ use Rattle.rules.specs.Bytes.{bytes}
 use Rattle.rules.specs.Laws.Tests.{held, and-both, by-when}
 use Rattle.rules.specs.Text.Words.{byteAt, valueOf, plainAt, numberAt}
 use Rattle.rules.specs.Store.Text.{datumOf, placeOf, cellWord, cellsOn, cellsFrom, spaced, blockWords, storeKey, storeOrder, storeWords, counted, within, StoreLine, storeLine, storeLimits, storeShaped, storeKeyed, storeLineAt, Counted, countedOut, storeEnd, andStore, storeLines, noStore}
-use Rattle.text.proofs.Laws.{inside, Reads, right, wrong, value-most, plain-reads, number-reads, or-reads}
+use Rattle.text.proofs.Laws.{found, Reads, right, wrong, value-most, plain-reads, number-reads, or-reads}
 use Rattle.tally.specs.Counts.{Few, tallied}
 
 -- ---- cells
@@ -26,15 +26,12 @@ module _ {at to : ℕ} (h : at < to) where
   place-reads (right v n f t l m) = right ((v + 3) * 4294967296) n (omega arith) t zero-le (omega arith)
   place-reads (wrong p x) = wrong p (omega arith)
 
-first-byte : (s : List ℕ) (at b : ℕ) → b < 256 → eqb (byteAt s at) b ≡ true → at < length s
-first-byte s at b h e = let x : byteAt s at ≡ b = eqb-true (byteAt s at) b e in inside s at (omega arith)
-
 pub cell-reads : (s : List ℕ) (at : ℕ) → Reads (at + 1) (length s) 0 9223372045444710400 (cellWord s at)
 unfolding cellWord
 cell-reads s at =
     let P = Reads (at + 1) (length s) 0 9223372045444710400 in
-    by-when P (eqb (byteAt s at) 105) _ _ (λ e. datum-reads (first-byte s at 105 (omega arith) e) (number-reads s (at + 1))) (λ _.
-    by-when P (eqb (byteAt s at) 98) _ _ (λ e. place-reads (first-byte s at 98 (omega arith) e) (plain-reads s (at + 1))) (λ _.
+    by-when P (eqb (byteAt s at) 105) _ _ (λ e. datum-reads (found s at 105 (omega arith) e) (number-reads s (at + 1))) (λ _.
+    by-when P (eqb (byteAt s at) 98) _ _ (λ e. place-reads (found s at 98 (omega arith) e) (plain-reads s (at + 1))) (λ _.
     wrong at (omega arith)))
 
 -- no more cells than bytes

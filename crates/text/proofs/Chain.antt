@@ -2,7 +2,7 @@
 use native.Mathlib.Decide.{decLt}
 use native.Mathlib.Omega.{arith}
 use borrow.Author.Tests.{eqb-false, ne-eqb}
-use Rattle.rules.specs.Prelude.{ℕ, _+_, _<_, _≤_, max, Bool, true, false, List, [], _∷_, _≡_, refl, sym, ap, _∙_, eqb, length, getD, drop}
+use Rattle.rules.specs.Prelude.{ℕ, _+_, _<_, _≤_, max, Bool, true, List, [], _∷_, _≡_, refl, sym, ap, _∙_, eqb, length, drop}
 use Rattle.rules.specs.declared.Reading.{Reading}
 use Rattle.rules.specs.declared.Reading.the-variants.{Got, Bad}
 use Rattle.rules.specs.When.{when}

@@ -6,16 +6,14 @@ use Prim.Native.Nat.{zero-le, suc-le-suc}
 use lib.ListN.{List·getD-eq-default, length-drop}
 use lib.Seq.{drop-cons}
 use borrow.Author.Tests.{ltb-false, eqb-true}
-use Rattle.rules.specs.Prelude.{ℕ, suc, _+_, _-_, _*_, _<_, _≤_, max, Bool, true, false, List, [], _∷_, _≡_, refl, subst, ltb, eqb, length, getD, drop}
+use Rattle.rules.specs.Prelude.{ℕ, suc, _+_, _-_, _*_, _<_, _≤_, max, true, List, [], _∷_, _≡_, subst, ltb, eqb, length, getD, drop}
 use Rattle.rules.specs.declared.Reading.{Reading}
 use Rattle.rules.specs.declared.Reading.the-variants.{Got, Bad}
-use Rattle.rules.specs.declared.Next.the-variants as N
 use Rattle.rules.specs.declared.Head.{Head}
 use Rattle.rules.specs.declared.Head.the-variants.{Node, Not}
-use Rattle.rules.specs.When.{when}
 use Rattle.rules.specs.Bytes.{bytes}
 use Rattle.rules.specs.Laws.Tests.{by-when}
-use Rattle.rules.specs.Text.Words.{byteAt, valueOf, nextOf, moreDigits, magnitudeAt, plainAt, minus, numberAt, agreed, orWord, byteIs, varAt, operatorAt, headOf, operatorHead, headAt}
+use Rattle.rules.specs.Text.Words.{byteAt, valueOf, nextOf, moreDigits, magnitudeAt, plainAt, minus, numberAt, agreed, orWord, varAt, operatorAt, headOf, operatorHead, headAt}
 
 -- ---- bytes
 
@@ -31,16 +29,8 @@ inside s i h =
     (λ p. omega arith)
     (eq-zero-or-pos (length s - i))
 
-found : (s : List ℕ) (i b : ℕ) → b < 256 → eqb (byteAt s i) b ≡ true → i < length s
+pub found : (s : List ℕ) (i b : ℕ) → b < 256 → eqb (byteAt s i) b ≡ true → i < length s
 found s i b h e = let x : byteAt s i ≡ b = eqb-true (byteAt s i) b e in inside s i (omega arith)
-
-pub byte-read : (s : List ℕ) (at : ℕ) {b n : ℕ} → b < 256 → byteIs s at b ≡ N.At n → (at < length s) × (n ≡ at + 1)
-unfolding byteIs
-byte-read s at {b} {n} h = go (eqb (byteAt s at) b) refl
-  where
-    go : (t : Bool) → eqb (byteAt s at) b ≡ t → when t (λ _. N.At (at + 1)) (λ _. N.Bad at) ≡ N.At n → (at < length s) × (n ≡ at + 1)
-    go true q e = (found s at b h q, cc)
-    go false q e = let z : _≡_ {A = ℕ} 0 1 = cc in absurd (omega arith)
 
 -- ---- a reading: its value is from `least` to `most`, its next byte from `from` to `to`; a wrong byte is before `from`, or up to `to`
 

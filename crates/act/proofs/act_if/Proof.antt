@@ -1,3 +1,4 @@
+-- `act::act_if` meets its contract. Assumes nothing.
 use Rattle.rules.specs.Machine.{actIf}
 use mathlib.Core.Path.{refl, sym}
 use borrow.Author.Needs.{needs}

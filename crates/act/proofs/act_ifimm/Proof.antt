@@ -1,3 +1,4 @@
+-- `act::act_ifimm` meets its contract. Assumes nothing.
 use Rattle.rules.specs.Machine.{actIfimm}
 use mathlib.Core.Path.{refl}
 use borrow.Author.Needs.{needs}

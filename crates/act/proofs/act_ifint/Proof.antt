@@ -1,3 +1,4 @@
+-- `act::act_ifint` meets its contract. Assumes nothing.
 use Rattle.rules.specs.Machine.{actIfint}
 use mathlib.Core.Path.{refl, sym}
 use borrow.Author.Needs.{needs}

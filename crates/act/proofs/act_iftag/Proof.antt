@@ -1,3 +1,4 @@
+-- `act::act_iftag` meets its contract. Assumes nothing.
 use Rattle.rules.specs.Machine.{actIftag}
 use mathlib.Core.Path.{refl}
 use borrow.Author.Needs.{needs}

@@ -1,3 +1,4 @@
+-- `act::act_put` meets its contract. Assumes nothing.
 use Rattle.rules.specs.Machine.{actPut}
 use mathlib.Core.Path.{refl, sym}
 use borrow.Author.Needs.{needs}

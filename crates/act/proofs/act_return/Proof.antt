@@ -1,3 +1,4 @@
+-- `act::act_return` meets its contract. Assumes nothing.
 use mathlib.Core.Path.{refl}
 use borrow.Author.Needs.{needs}
 use Rattle.act.proofs.act_return.Statement.{statement}

@@ -1,3 +1,4 @@
+-- `act::act_set` meets its contract. Assumes nothing.
 use Rattle.rules.specs.Sound.StepTables.{vals-length}
 use Rattle.rules.specs.Machine.{actSet}
 use mathlib.Core.Path.{_∙_, refl, sym}

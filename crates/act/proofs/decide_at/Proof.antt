@@ -1,3 +1,4 @@
+-- `act::decide_at` meets its contract. Assumes nothing.
 use Rattle.act.proofs.Laws.{line-past, line-there}
 use mathlib.Core.Path.{_∙_, sym}
 use borrow.Author.Needs.{needs}

@@ -1,3 +1,4 @@
+-- `act::given` meets its contract. Assumes nothing.
 use Rattle.eval.proofs.Laws.{tree-of}
 use borrow.Author.Needs.{needs}
 use Rattle.act.proofs.given.Statement.{statement}

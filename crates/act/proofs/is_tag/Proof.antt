@@ -1,3 +1,4 @@
+-- `act::is_tag` meets its contract. Assumes nothing.
 use Rattle.number.proofs.Laws.{plus-is, minus-is}
 use mathlib.Core.Path.{_∙_, sym, refl}
 use borrow.Author.Needs.{needs}

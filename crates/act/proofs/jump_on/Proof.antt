@@ -1,3 +1,4 @@
+-- `act::jump_on` meets its contract. Assumes nothing.
 use Rattle.rules.specs.Machine.{jumpOn}
 use Rattle.rules.specs.View.{program}
 use mathlib.Core.Path.{_∙_, refl, sym}

@@ -1,3 +1,4 @@
+-- `act::line_act` meets its contract. Assumes nothing.
 use Rattle.act.proofs.Laws.{goto-line, if-line, ifimm-line, ifint-line, iftag-line, label-line, no-line, put-line, return-line, set-line}
 use mathlib.Core.Path.{refl, sym}
 use borrow.Author.Needs.{needs}

@@ -1,3 +1,4 @@
+-- `act::put_line` meets its contract. Assumes nothing.
 use Rattle.eval.proofs.Laws.{after-of, tree-of}
 use mathlib.Core.Path.{sym}
 use borrow.Author.Needs.{needs}

@@ -1,3 +1,4 @@
+-- `act::put_to` meets its contract. Assumes nothing.
 use borrow.Author.Needs.{needs}
 use Rattle.act.proofs.put_to.Statement.{statement}
 use Rattle.act.proofs.put_to.Tie as tie

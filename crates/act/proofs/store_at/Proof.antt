@@ -1,3 +1,4 @@
+-- `act::store_at` meets its contract. Assumes nothing.
 use mathlib.Core.Path.{refl}
 use borrow.Author.Needs.{needs}
 use Rattle.act.proofs.store_at.Statement.{statement}

@@ -1,3 +1,4 @@
+-- `act::tag_jump` meets its contract. Assumes nothing.
 use Rattle.act.proofs.Laws.{tag-absent, tag-goes, tag-inside}
 use mathlib.Core.Path.{_∙_}
 use borrow.Author.Needs.{needs}

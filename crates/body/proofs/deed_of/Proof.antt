@@ -1,3 +1,4 @@
+-- `body::deed_of` meets its contract. Assumes nothing.
 use Rattle.body.proofs.Laws.{goto-line, if-line, ifimm-line, ifint-line, iftag-line, label-line, no-line, put-line, return-line, set-line}
 use Rattle.rules.specs.View.{varsFrom}
 use lib.ListN.{length}

@@ -1,3 +1,4 @@
+-- `body::ended` meets its contract. Assumes nothing.
 use Prim.Native.Nat.{_+_}
 use Rattle.body.proofs.Laws.{last-is, no-last}
 use Rattle.program.proofs.Laws.{lines-small, rows-small, vars-small}

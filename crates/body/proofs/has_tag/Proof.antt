@@ -1,3 +1,4 @@
+-- `body::has_tag` meets its contract. Assumes nothing.
 use Rattle.number.specs.Places.{index-at, index-out}
 use mathlib.Core.Path.{_∙_, sym}
 use borrow.Author.Needs.{needs}

@@ -1,3 +1,4 @@
+-- `body::int_test` meets its contract. Assumes nothing.
 use Rattle.rules.specs.Body.{ruleIfint}
 use mathlib.Core.Path.{_∙_, sym}
 use borrow.Author.Needs.{needs}

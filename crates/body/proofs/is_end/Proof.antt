@@ -1,3 +1,4 @@
+-- `body::is_end` meets its contract. Assumes nothing.
 use Rattle.body.proofs.Laws.{end-kind, end-rest}
 use Rattle.rules.specs.View.{wayOf}
 use mathlib.Core.Path.{sym}

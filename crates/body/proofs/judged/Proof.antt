@@ -1,3 +1,4 @@
+-- `body::judged` meets its contract. Assumes nothing.
 use Rattle.typing.proofs.Laws.{tree-of}
 use borrow.Author.Needs.{needs}
 use Rattle.body.proofs.judged.Statement.{statement}

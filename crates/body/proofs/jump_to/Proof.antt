@@ -1,3 +1,4 @@
+-- `body::jump_to` meets its contract. Assumes nothing.
 use mathlib.Core.Path.{_∙_, refl, sym}
 use borrow.Author.Needs.{needs}
 use Rattle.body.proofs.jump_to.Statement.{statement}

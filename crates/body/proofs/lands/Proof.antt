@@ -1,3 +1,4 @@
+-- `body::lands` meets its contract. Assumes nothing.
 use Rattle.body.proofs.Laws.{env-covers}
 use borrow.Author.Tests.{le-ltb, lt-ltb}
 use mathlib.Core.Path.{refl, sym}

@@ -1,3 +1,4 @@
+-- `body::local_entry` meets its contract. Assumes nothing.
 use borrow.Author.Needs.{needs}
 use Rattle.body.proofs.local_entry.Statement.{statement}
 use Rattle.body.proofs.local_entry.Tie as tie

@@ -1,3 +1,4 @@
+-- `body::local_line` meets its contract. Assumes nothing.
 use Rattle.rules.specs.Body.{localLine}
 use Rattle.rules.specs.Program.{kindAt}
 use mathlib.Core.Path.{_∙_, refl, sym}

@@ -1,3 +1,4 @@
+-- `body::own_judged` meets its contract. Assumes nothing.
 use borrow.Author.Needs.{needs}
 use Rattle.body.proofs.own_judged.Statement.{statement}
 use Rattle.body.proofs.own_judged.Tie as tie

@@ -1,3 +1,4 @@
+-- `body::put_at` meets its contract. Assumes nothing.
 use mathlib.Core.Path.{_∙_, sym}
 use borrow.Author.Needs.{needs}
 use Rattle.body.proofs.put_at.Statement.{statement}

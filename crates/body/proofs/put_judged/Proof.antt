@@ -1,3 +1,4 @@
+-- `body::put_judged` meets its contract. Assumes nothing.
 use Rattle.rules.specs.Body.{rulePut}
 use mathlib.Core.Path.{sym}
 use borrow.Author.Needs.{needs}

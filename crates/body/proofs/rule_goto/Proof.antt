@@ -1,3 +1,4 @@
+-- `body::rule_goto` meets its contract. Assumes nothing.
 use Rattle.rules.specs.Body.{ruleGoto}
 use mathlib.Core.Path.{sym}
 use borrow.Author.Needs.{needs}

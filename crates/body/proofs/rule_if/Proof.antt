@@ -1,3 +1,4 @@
+-- `body::rule_if` meets its contract. Assumes nothing.
 use Rattle.rules.specs.Body.{ruleIf}
 use mathlib.Core.Path.{sym}
 use borrow.Author.Needs.{needs}

@@ -1,3 +1,4 @@
+-- `body::rule_ifimm` meets its contract. Assumes nothing.
 use Rattle.rules.specs.Body.{ruleIfimm}
 use mathlib.Core.Path.{_∙_, sym}
 use borrow.Author.Needs.{needs}

@@ -1,3 +1,4 @@
+-- `body::rule_ifint` meets its contract. Assumes nothing.
 use Rattle.rules.specs.Body.{ruleIfint}
 use mathlib.Core.Path.{_∙_, sym}
 use borrow.Author.Needs.{needs}

@@ -1,3 +1,4 @@
+-- `body::rule_label` meets its contract. Assumes nothing.
 use Rattle.body.specs.Lines.{labelLine}
 use Rattle.rules.specs.View.{varsFrom}
 use lib.ListN.{length}

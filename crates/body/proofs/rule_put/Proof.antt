@@ -1,3 +1,4 @@
+-- `body::rule_put` meets its contract. Assumes nothing.
 use Rattle.typing.proofs.Laws.{after-of, tree-of}
 use mathlib.Core.Path.{sym}
 use borrow.Author.Needs.{needs}

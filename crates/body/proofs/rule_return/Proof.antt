@@ -1,3 +1,4 @@
+-- `body::rule_return` meets its contract. Assumes nothing.
 use Rattle.rules.specs.Body.{ruleReturn}
 use mathlib.Core.Path.{_∙_, sym}
 use borrow.Author.Needs.{needs}

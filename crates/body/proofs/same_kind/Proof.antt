@@ -1,3 +1,4 @@
+-- `body::same_kind` meets its contract. Assumes nothing.
 use mathlib.Core.Path.{refl}
 use borrow.Author.Needs.{needs}
 use Rattle.body.proofs.same_kind.Statement.{statement}

@@ -1,3 +1,4 @@
+-- `body::start_entry` meets its contract. Assumes nothing.
 use Rattle.rules.specs.Environments.{startAt}
 use Rattle.rules.specs.Program.{kindAt}
 use mathlib.Core.Path.{_∙_, refl, sym}

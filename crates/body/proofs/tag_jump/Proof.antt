@@ -1,3 +1,4 @@
+-- `body::tag_jump` meets its contract. Assumes nothing.
 use mathlib.Core.Path.{sym}
 use borrow.Author.Needs.{needs}
 use Rattle.body.proofs.tag_jump.Statement.{statement}

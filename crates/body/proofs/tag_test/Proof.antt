@@ -1,3 +1,4 @@
+-- `body::tag_test` meets its contract. Assumes nothing.
 use Rattle.rules.specs.Body.{ruleIftag}
 use mathlib.Core.Path.{_∙_, sym}
 use borrow.Author.Needs.{needs}

@@ -1,3 +1,4 @@
+-- `body::typed` meets its contract. Assumes nothing.
 use Rattle.body.proofs.Laws.{types-parts}
 use Rattle.body.specs.Lines.{lent}
 use borrow.Author.Tests.{eq-eqb, ne-eqb}

@@ -1,3 +1,4 @@
+-- `coded::entry_in` meets its contract. Assumes nothing.
 use Rattle.coded.proofs.Laws.{read-in, read-past, zeros}
 use mathlib.Core.Path.{_∙_, sym}
 use borrow.Author.Needs.{needs}

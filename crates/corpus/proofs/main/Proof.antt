@@ -1,3 +1,4 @@
+-- `corpus::main` meets its contract. Assumes nothing.
 use Prim.Native.Nat.{_≤_, _-_}
 use borrow.Author.Needs.{needs}
 use Rattle.corpus.proofs.main.Statement.{statement}

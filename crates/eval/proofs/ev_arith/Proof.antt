@@ -1,3 +1,4 @@
+-- `eval::ev_arith` meets its contract. Assumes nothing.
 use Rattle.rules.specs.Machine.{evArith}
 use mathlib.Core.Path.{refl}
 use borrow.Author.Needs.{needs}

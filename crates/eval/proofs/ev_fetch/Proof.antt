@@ -1,3 +1,4 @@
+-- `eval::ev_fetch` meets its contract. Assumes nothing.
 use Rattle.eval.proofs.Laws.{fetch-is}
 use Rattle.rules.specs.Machine.{evFetch}
 use mathlib.Core.Path.{_∙_, refl}

@@ -1,3 +1,4 @@
+-- `eval::ev_int` meets its contract. Assumes nothing.
 use Rattle.rules.specs.Machine.{evInt}
 use mathlib.Core.Path.{refl}
 use borrow.Author.Needs.{needs}

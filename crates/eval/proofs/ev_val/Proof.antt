@@ -1,3 +1,4 @@
+-- `eval::ev_val` meets its contract. Assumes nothing.
 use Rattle.rules.specs.Machine.{evVal}
 use mathlib.Core.Path.{_∙_, refl, sym}
 use borrow.Author.Needs.{needs}

@@ -1,3 +1,4 @@
+-- `eval::given_at` meets its contract. Assumes nothing.
 use native.Mathlib.Omega.{arith}
 use borrow.Author.Needs.{needs}
 use Rattle.eval.proofs.Laws.{leaf-ends}

@@ -1,3 +1,4 @@
+-- `eval::is_leaf` meets its contract. Assumes nothing.
 use mathlib.Core.Path.{_≡_, ap, sym, _∙_}
 use native.Mathlib.Omega.{arith}
 use Prim.Native.Nat.{ℕ}

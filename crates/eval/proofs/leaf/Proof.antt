@@ -1,3 +1,4 @@
+-- `eval::leaf` meets its contract. Assumes nothing.
 use Rattle.program.proofs.Walk.{leaf-rest}
 use Rattle.eval.specs.Walk.{form}
 use Rattle.rules.specs.View.{formOf}

@@ -1,3 +1,4 @@
+-- `eval::moved` meets its contract. Assumes nothing.
 use Rattle.eval.proofs.Laws.{lands, leaves}
 use borrow.Author.Needs.{needs}
 use Rattle.eval.proofs.moved.Statement.{statement}

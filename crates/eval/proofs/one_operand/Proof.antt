@@ -1,3 +1,4 @@
+-- `eval::one_operand` meets its contract. Assumes nothing.
 use Rattle.program.proofs.Walk.{one-rest}
 use Rattle.eval.specs.Walk.{form}
 use Rattle.rules.specs.View.{formOf}

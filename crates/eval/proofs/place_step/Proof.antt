@@ -1,3 +1,4 @@
+-- `eval::place_step` meets its contract. Assumes nothing.
 use Rattle.rules.specs.Machine.{evStep}
 use mathlib.Core.Path.{refl}
 use borrow.Author.Needs.{needs}

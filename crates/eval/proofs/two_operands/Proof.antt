@@ -1,3 +1,4 @@
+-- `eval::two_operands` meets its contract. Assumes nothing.
 use Rattle.program.proofs.Walk.{two-rest}
 use Rattle.eval.specs.Walk.{form}
 use Rattle.rules.specs.View.{formOf}

@@ -1,3 +1,4 @@
+-- `eval::var_given` meets its contract. Assumes nothing.
 use mathlib.Core.Path.{sym}
 use borrow.Author.Needs.{needs}
 use Rattle.eval.proofs.var_given.Statement.{statement}

@@ -1,3 +1,4 @@
+-- `export::tapmallet_check` meets its contract. Assumes nothing.
 use mathlib.Core.Path.{ap, _∙_}
 use Rattle.rules.specs.declared.Answer.{Answer}
 use Rattle.checker.specs.Verdicts.{answered}

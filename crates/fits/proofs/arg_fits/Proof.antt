@@ -1,3 +1,4 @@
+-- `fits::arg_fits` meets its contract. Assumes nothing.
 use Rattle.fits.proofs.Laws.{arg-is}
 use Rattle.rules.specs.View.{varsFrom}
 use mathlib.Core.Path.{_∙_}

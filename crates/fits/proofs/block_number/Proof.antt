@@ -1,3 +1,4 @@
+-- `fits::block_number` meets its contract. Assumes nothing.
 use Rattle.fits.proofs.Laws.{block-cells, block-right, block-shape}
 use borrow.Author.Needs.{needs}
 use Rattle.fits.proofs.block_number.Statement.{statement}

@@ -1,3 +1,4 @@
+-- `fits::fits_imm` meets its contract. Assumes nothing.
 use Rattle.rules.specs.Fits.{fitsImm}
 use Rattle.rules.specs.Numbers.{suits}
 use Rattle.rules.specs.declared.Psi.{Psi}

@@ -1,3 +1,4 @@
+-- `fits::fits_place` meets its contract. Assumes nothing.
 use Rattle.fits.proofs.Laws.{place-apart, place-in, place-past}
 use Rattle.rules.specs.Machine.Tables.{storeOf}
 use mathlib.Core.Path.{_∙_}

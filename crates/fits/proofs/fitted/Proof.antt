@@ -1,3 +1,4 @@
+-- `fits::fitted` meets its contract. Assumes nothing.
 use Rattle.fits.proofs.Laws.{fits-args, fits-blocks}
 use Rattle.rules.specs.View.{program}
 use Rattle.storage.proofs.Laws.{blocks-small}

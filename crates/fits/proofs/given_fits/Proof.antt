@@ -1,3 +1,4 @@
+-- `fits::given_fits` meets its contract. Assumes nothing.
 use Rattle.rules.specs.Fits.{fits}
 use borrow.Author.Needs.{needs}
 use Rattle.fits.proofs.given_fits.Statement.{statement}

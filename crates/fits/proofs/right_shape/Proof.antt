@@ -1,3 +1,4 @@
+-- `fits::right_shape` meets its contract. Assumes nothing.
 use Rattle.fits.proofs.Laws.{shape-cells, shape-tag}
 use Rattle.rules.specs.Machine.Tables.{storeOf}
 use borrow.Author.Needs.{needs}

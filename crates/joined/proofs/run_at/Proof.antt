@@ -1,3 +1,4 @@
+-- `joined::run_at` meets its contract. Assumes nothing.
 use Prim.Native.Nat.{ℕ}
 use Rattle.joined.proofs.Laws.{run-there}
 use Rattle.rules.specs.Text.Words.{valueOf}

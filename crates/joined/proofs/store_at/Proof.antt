@@ -1,3 +1,4 @@
+-- `joined::store_at` meets its contract. Assumes nothing.
 use borrow.Author.Needs.{needs}
 use Rattle.joined.proofs.store_at.Statement.{statement}
 use Rattle.joined.proofs.store_at.Tie as tie

@@ -1,3 +1,4 @@
+-- `names::there_at` meets its contract. Assumes nothing.
 use Rattle.names.proofs.Laws.{at-past, at-zero, leaf-is, one-is, one-not, two-none, two-some}
 use Rattle.program.specs.Lines.{tablesOf}
 use Rattle.rules.specs.View.{program}

@@ -1,3 +1,4 @@
+-- `names::entry_suits` meets its contract. Assumes nothing.
 use Rattle.rules.specs.Names.{entrySuits}
 use borrow.Author.Needs.{needs}
 use Rattle.names.proofs.entry_suits.Statement.{statement}

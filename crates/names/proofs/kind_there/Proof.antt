@@ -1,3 +1,4 @@
+-- `names::kind_there` meets its contract. Assumes nothing.
 use Rattle.rules.specs.Names.{kindThere}
 use Rattle.rules.specs.View.{program}
 use borrow.Author.Needs.{needs}

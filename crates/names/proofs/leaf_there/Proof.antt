@@ -1,3 +1,4 @@
+-- `names::leaf_there` meets its contract. Assumes nothing.
 use Rattle.program.proofs.Walk.{leaf-rest}
 use Rattle.rules.specs.View.{formOf, program}
 use mathlib.Core.Path.{refl}

@@ -1,3 +1,4 @@
+-- `names::line_suits` meets its contract. Assumes nothing.
 use Rattle.names.proofs.Laws.{other-line}
 use Rattle.rules.specs.Names.{labelSuits}
 use Rattle.rules.specs.View.{program, stmtOf, wayOf}

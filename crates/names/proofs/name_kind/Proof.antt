@@ -1,3 +1,4 @@
+-- `names::name_kind` meets its contract. Assumes nothing.
 use Rattle.rules.specs.Names.{nameKind}
 use mathlib.Core.Path.{sym}
 use borrow.Author.Needs.{needs}

@@ -1,3 +1,4 @@
+-- `names::name_line` meets its contract. Assumes nothing.
 use Rattle.names.proofs.Laws.{stored-line}
 use Rattle.rules.specs.Names.{nameStmt}
 use mathlib.Core.Path.{_∙_, ap, ap₂}

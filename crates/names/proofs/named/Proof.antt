@@ -1,3 +1,4 @@
+-- `names::named` meets its contract. Assumes nothing.
 use Rattle.names.proofs.Laws.{names-body, names-rows, names-top, names-vars}
 use Rattle.program.proofs.Laws.{rows-small, vars-small}
 use Rattle.rules.specs.Names.{nameKind}

@@ -1,3 +1,4 @@
+-- `names::one_there` meets its contract. Assumes nothing.
 use Rattle.program.proofs.Walk.{one-rest}
 use Rattle.rules.specs.View.{formOf, program}
 use mathlib.Core.Path.{refl}

@@ -1,3 +1,4 @@
+-- `names::stmt_there` meets its contract. Assumes nothing.
 use Rattle.names.proofs.Laws.{way-none}
 use Rattle.program.proofs.Walk.{with-one, with-two}
 use Rattle.rules.specs.Names.{stmtThere}

@@ -1,3 +1,4 @@
+-- `names::tree_there` meets its contract. Assumes nothing.
 use Rattle.names.proofs.Laws.{tree-test}
 use Rattle.program.specs.Lines.{tablesOf}
 use Rattle.rules.specs.View.{program}

@@ -1,3 +1,4 @@
+-- `program::entry_at` meets its contract. Assumes nothing.
 use Rattle.rules.specs.View.{entryFrom}
 use borrow.Author.Needs.{needs}
 use Rattle.program.proofs.entry_at.Statement.{statement}

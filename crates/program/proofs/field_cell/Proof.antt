@@ -1,3 +1,4 @@
+-- `program::field_cell` meets its contract. Assumes nothing.
 use borrow.Author.Needs.{needs}
 use Rattle.program.proofs.field_cell.Statement.{statement}
 use Rattle.program.proofs.field_cell.Tie as tie

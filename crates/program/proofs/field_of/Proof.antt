@@ -1,3 +1,4 @@
+-- `program::field_of` meets its contract. Assumes nothing.
 use Rattle.program.proofs.Laws.{field-in, field-out, field-small}
 use Rattle.rules.specs.View.{rowsFrom}
 use Rattle.table.proofs.Laws.{above, below}

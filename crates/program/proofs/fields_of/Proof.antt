@@ -1,3 +1,4 @@
+-- `program::fields_of` meets its contract. Assumes nothing.
 use Rattle.program.proofs.Laws.{fields-in, fields-out, prods-small}
 use Rattle.rules.specs.View.{rowsFrom, upTo}
 use Rattle.table.proofs.Laws.{above, below}

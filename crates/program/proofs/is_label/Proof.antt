@@ -1,3 +1,4 @@
+-- `program::is_label` meets its contract. Assumes nothing.
 use Rattle.program.specs.Lines.{isLabelLine}
 use borrow.Author.Tests.{eq-eqb, ne-eqb}
 use borrow.Author.Needs.{needs}

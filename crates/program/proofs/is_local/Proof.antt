@@ -1,3 +1,4 @@
+-- `program::is_local` meets its contract. Assumes nothing.
 use Prim.Native.Nat.{ℕ}
 use Rattle.program.proofs.Laws.{var-in, var-out}
 use Rattle.rules.specs.Program.{Var}

@@ -1,3 +1,4 @@
+-- `program::kind_code` meets its contract. Assumes nothing.
 use Rattle.rules.specs.View.{kindCode}
 use borrow.Author.Tests.{le-ltb, lt-ltb}
 use borrow.Author.Needs.{needs}

@@ -1,3 +1,4 @@
+-- `program::kind_of` meets its contract. Assumes nothing.
 use Rattle.program.proofs.Laws.{kind-in, kind-out}
 use Rattle.rules.specs.View.{kindCode}
 use Rattle.table.proofs.Laws.{above, below}

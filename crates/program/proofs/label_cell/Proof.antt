@@ -1,3 +1,4 @@
+-- `program::label_cell` meets its contract. Assumes nothing.
 use Prim.Native.Nat.{ℕ}
 use Rattle.rules.specs.Text.Layout.{cell, labelWidth}
 use Rattle.table.proofs.Laws.{clamped}

@@ -1,3 +1,4 @@
+-- `program::label_entry` meets its contract. Assumes nothing.
 use Rattle.program.proofs.Laws.{entry-in, entry-out, entry-past}
 use Rattle.table.proofs.Laws.{above, below}
 use mathlib.Core.Path.{_∙_, sym}

@@ -1,3 +1,4 @@
+-- `program::label_line` meets its contract. Assumes nothing.
 use Prim.Native.Nat.{_-_, ℕ}
 use Rattle.program.proofs.Laws.{label-line-in, label-out}
 use Rattle.rules.specs.Program.{Label}

@@ -1,3 +1,4 @@
+-- `program::label_there` meets its contract. Assumes nothing.
 use Rattle.program.proofs.LabelLines.{there-in, there-out, there-past}
 use Rattle.program.specs.Lines.{isLabelLine}
 use Rattle.program.specs.declared.Stored.{Stored}

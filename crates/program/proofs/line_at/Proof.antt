@@ -1,3 +1,4 @@
+-- `program::line_at` meets its contract. Assumes nothing.
 use Prim.Native.Nat.{_*_, ℕ}
 use Rattle.program.proofs.Places.{line-out}
 use Rattle.program.specs.Lines.{storedAt}

@@ -1,3 +1,4 @@
+-- `program::line_count` meets its contract. Assumes nothing.
 use Rattle.program.proofs.Laws.{line-count}
 use Rattle.rules.specs.View.{upTo}
 use mathlib.Core.Path.{_∙_, ap, sym}

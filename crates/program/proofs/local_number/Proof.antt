@@ -1,3 +1,4 @@
+-- `program::local_number` meets its contract. Assumes nothing.
 use Rattle.program.proofs.Laws.{var-in, var-out}
 use Rattle.rules.specs.Numbers.{numCode}
 use Rattle.rules.specs.Program.{Var}

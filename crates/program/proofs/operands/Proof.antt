@@ -1,3 +1,4 @@
+-- `program::operands` meets its contract. Assumes nothing.
 use Rattle.rules.specs.View.{formOf}
 use Rattle.program.proofs.Walk.{form-rest}
 use mathlib.Core.Path.{refl}

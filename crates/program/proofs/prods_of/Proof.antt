@@ -1,3 +1,4 @@
+-- `program::prods_of` meets its contract. Assumes nothing.
 use Rattle.program.proofs.Laws.{prods-in, prods-out}
 use Rattle.rules.specs.View.{rowsFrom, upTo}
 use Rattle.table.proofs.Laws.{above, below}

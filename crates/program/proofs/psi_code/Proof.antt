@@ -1,3 +1,4 @@
+-- `program::psi_code` meets its contract. Assumes nothing.
 use Rattle.rules.specs.View.{psiCode}
 use borrow.Author.Tests.{ne-eqb}
 use borrow.Author.Needs.{needs}

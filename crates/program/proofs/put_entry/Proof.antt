@@ -1,3 +1,4 @@
+-- `program::put_entry` meets its contract. Assumes nothing.
 use Prim.Native.Nat.{ℕ}
 use Rattle.program.proofs.Places.{entries-past}
 use Rattle.rules.specs.Text.Fill.{putEntry}

@@ -1,3 +1,4 @@
+-- `program::put_field` meets its contract. Assumes nothing.
 use Prim.Native.Nat.{ℕ}
 use Rattle.program.proofs.Places.{fields-past}
 use Rattle.rules.specs.Text.Fill.{putField}

@@ -1,3 +1,4 @@
+-- `program::put_label_line` meets its contract. Assumes nothing.
 use Prim.Native.Nat.{_*_, ℕ}
 use Rattle.rules.specs.Text.Layout.{labelWidth}
 use Rattle.table.proofs.Laws.{clamped}

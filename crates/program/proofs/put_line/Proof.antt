@@ -1,3 +1,4 @@
+-- `program::put_line` meets its contract. Assumes nothing.
 use Prim.Native.Nat.{ℕ}
 use Rattle.program.proofs.Places.{body-past}
 use Rattle.rules.specs.Text.Fill.{putLine}

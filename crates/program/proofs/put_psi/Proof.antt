@@ -1,3 +1,4 @@
+-- `program::put_psi` meets its contract. Assumes nothing.
 use Prim.Native.Nat.{_*_, ℕ}
 use Rattle.rules.specs.Text.Layout.{rowWidth}
 use Rattle.table.proofs.Laws.{clamped}

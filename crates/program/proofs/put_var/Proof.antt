@@ -1,3 +1,4 @@
+-- `program::put_var` meets its contract. Assumes nothing.
 use Prim.Native.Nat.{ℕ}
 use Rattle.program.proofs.Places.{var-past}
 use Rattle.rules.specs.Text.Fill.{putVar}

@@ -1,3 +1,4 @@
+-- `program::ret_kind` meets its contract. Assumes nothing.
 use Rattle.rules.specs.View.{kindCode}
 use mathlib.Core.Path.{_∙_, ap}
 use borrow.Author.Needs.{needs}

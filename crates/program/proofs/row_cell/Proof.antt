@@ -1,3 +1,4 @@
+-- `program::row_cell` meets its contract. Assumes nothing.
 use Prim.Native.Nat.{ℕ}
 use Rattle.rules.specs.Text.Layout.{cell, rowWidth}
 use Rattle.table.proofs.Laws.{clamped}

@@ -1,3 +1,4 @@
+-- `program::var_cell` meets its contract. Assumes nothing.
 use Prim.Native.Nat.{ℕ}
 use Rattle.rules.specs.Text.Layout.{cell, varWidth}
 use Rattle.table.proofs.Laws.{clamped}

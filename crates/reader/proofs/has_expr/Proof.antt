@@ -3,7 +3,6 @@ use Rattle.rules.specs.Text.Shape.{keyOf}
 use Rattle.once.specs.Once.{hasExpr}
 use Rattle.once.proofs.Keys.{other-keys}
 use mathlib.Core.Path.{refl, sym}
-use borrow.Author.Needs.{needs}
 use Rattle.reader.proofs.has_expr.Statement.{statement}
 use Rattle.reader.proofs.has_expr.Tie as tie
 

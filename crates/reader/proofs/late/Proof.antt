@@ -1,7 +1,6 @@
 -- `late`: by the shape, and by whether a line feed stands after it. Assumes nothing.
 use Rattle.reader.proofs.Once.{late-bad, late-no-feed, late-limit}
 use Rattle.reader.specs.Read.{settled}
-use Rattle.rules.specs.Text.{Lined}
 use mathlib.Core.Path.{_∙_, ap, sym}
 use borrow.Author.Needs.{needs}
 use Rattle.reader.proofs.late.Statement.{statement}

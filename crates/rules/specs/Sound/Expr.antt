@@ -63,7 +63,7 @@ nothing-suits (G.Known n) h = go (n .n) h
     go : (z : ℤ) → T (among z 0) → ⊥
     go (pos k) h = let x : k < 0 = ltb→lt k 0 h in omega lin
 
-psi-absent : (ρ : Rows) (r : ℕ) → length ρ ≤ r → psiOf ρ r ≡ Upto 0
+pub psi-absent : (ρ : Rows) (r : ℕ) → length ρ ≤ r → psiOf ρ r ≡ Upto 0
 unfolding psiOf rowAt
 psi-absent ρ r h = ap (λ (R : Row). R .psi) (List·getD-eq-default ρ (record { psi = Upto 0; products = [] }) h)
 

@@ -1,3 +1,4 @@
+-- `runner::outcome` meets its contract. Assumes nothing.
 use mathlib.Core.Path.{ap}
 use Rattle.runner.specs.Ran.{ended}
 use borrow.Author.Needs.{needs}

@@ -1,3 +1,4 @@
+-- `runner::run` meets its contract. Assumes nothing.
 use mathlib.Core.Path.{ap, subst⁻¹, _∙_}
 use Prim.Native.Nat.{ℕ, _≤_}
 use mathlib.Core.Bool.{true}

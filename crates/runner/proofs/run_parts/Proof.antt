@@ -1,3 +1,4 @@
+-- `runner::run_parts` meets its contract. Assumes nothing.
 use mathlib.Core.Path.{sym}
 use borrow.Table.Elements.{length-take-le}
 use Rattle.runner.proofs.Laws.{glue-refused, rest-is, glue-ran}

@@ -1,3 +1,4 @@
+-- `runner::run_store` meets its contract. Assumes nothing.
 use Rattle.rules.specs.View.{program}
 use Rattle.program.specs.Lines.{tablesOf}
 use Rattle.runner.proofs.Laws.{store-refused, store-ran}

@@ -1,3 +1,4 @@
+-- `storage::block_count` meets its contract. Assumes nothing.
 use Rattle.rules.specs.View.{upTo}
 use Rattle.storage.proofs.Laws.{block-count}
 use mathlib.Core.Path.{_∙_, ap, sym}

@@ -1,3 +1,4 @@
+-- `storage::block_row` meets its contract. Assumes nothing.
 use Prim.Native.Nat.{_-_, ℕ}
 use Rattle.rules.specs.Machine.Tables.{storeOf}
 use Rattle.storage.proofs.Laws.{row-in, row-out}

@@ -1,3 +1,4 @@
+-- `storage::block_tag` meets its contract. Assumes nothing.
 use Rattle.rules.specs.Machine.Tables.{storeOf}
 use Rattle.storage.proofs.Laws.{tag-in, tag-out}
 use Rattle.table.proofs.Laws.{above, below}

@@ -1,3 +1,4 @@
+-- `storage::cell_at` meets its contract. Assumes nothing.
 use Rattle.rules.specs.Machine.Tables.{datumCode, storeOf}
 use Rattle.storage.proofs.Laws.{cell-in, cell-out, cells-small}
 use Rattle.table.proofs.Laws.{above, below}

@@ -1,3 +1,4 @@
+-- `storage::cell_count` meets its contract. Assumes nothing.
 use Rattle.rules.specs.Machine.Tables.{storeOf}
 use Rattle.rules.specs.View.{upTo}
 use Rattle.storage.proofs.Laws.{cells-in, cells-out}

@@ -1,3 +1,4 @@
+-- `storage::is_inside` meets its contract. Assumes nothing.
 use Prim.Native.Nat.{ℕ}
 use Rattle.table.proofs.Laws.{above, below}
 use borrow.Author.Tests.{le-ltb, lt-ltb}

@@ -1,3 +1,4 @@
+-- `storage::put_cell` meets its contract. Assumes nothing.
 use Prim.Native.Nat.{_*_, _+_, ℕ}
 use Rattle.rules.specs.Machine.Tables.{blockWidth}
 use Rattle.table.proofs.Laws.{clamped}

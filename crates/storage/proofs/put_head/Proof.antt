@@ -1,3 +1,4 @@
+-- `storage::put_head` meets its contract. Assumes nothing.
 use Prim.Native.Nat.{ℕ}
 use Rattle.storage.proofs.Laws.{head-past}
 use Rattle.storage.specs.Heads.{headPut}

@@ -1,3 +1,4 @@
+-- `storage::val_at` meets its contract. Assumes nothing.
 use Rattle.rules.specs.Machine.Tables.{datumCode}
 use Rattle.storage.proofs.Laws.{val-in, val-out}
 use mathlib.Core.Path.{_∙_, ap, sym}

@@ -1,3 +1,4 @@
+-- `table::at64` meets its contract. Assumes nothing.
 use lib.ListN.{List·getD-eq-default}
 use mathlib.Core.Path.{sym}
 use borrow.Author.Needs.{needs}

@@ -1,3 +1,4 @@
+-- `table::up_to` meets its contract. Assumes nothing.
 use Rattle.rules.specs.View.{upTo}
 use borrow.Author.Tests.{le-ltb, lt-ltb}
 use Rattle.table.proofs.up_to.Statement.{statement}

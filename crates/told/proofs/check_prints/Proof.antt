@@ -1,3 +1,4 @@
+-- `told::check_prints` meets its contract. Assumes nothing.
 use Rattle.told.proofs.Laws.{check-shown}
 use borrow.Author.Needs.{needs}
 use Rattle.told.proofs.check_prints.Statement.{statement}

@@ -1,3 +1,4 @@
+-- `told::run_prints` meets its contract. Assumes nothing.
 use mathlib.Core.Path.{ap, _∙_}
 use Rattle.rules.specs.declared.Answer.{Answer}
 use Rattle.told.proofs.Laws.{run-shown}

@@ -1,3 +1,4 @@
+-- `typing::judge_at` meets its contract. Assumes nothing.
 use mathlib.Core.Path.{_∙_, sym}
 use borrow.Author.Needs.{needs}
 use Rattle.rules.specs.Typing.{type}

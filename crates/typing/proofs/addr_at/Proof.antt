@@ -1,3 +1,4 @@
+-- `typing::addr_at` meets its contract. Assumes nothing.
 use Rattle.number.specs.Places.{index-at, index-out}  -- filled
 use mathlib.Core.Path.{_∙_, refl, sym}  -- filled
 use borrow.Author.Needs.{needs}

@@ -1,3 +1,4 @@
+-- `typing::address_of` meets its contract. Assumes nothing.
 use mathlib.Core.Path.{refl, sym}  -- filled
 use borrow.Author.Needs.{needs}
 use Rattle.typing.proofs.address_of.Statement.{statement}

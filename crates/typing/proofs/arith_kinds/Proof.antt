@@ -1,3 +1,4 @@
+-- `typing::arith_kinds` meets its contract. Assumes nothing.
 use mathlib.Core.Path.{refl, sym}  -- filled
 use borrow.Author.Needs.{needs}
 use Rattle.typing.proofs.arith_kinds.Statement.{statement}

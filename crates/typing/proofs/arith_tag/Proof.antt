@@ -1,3 +1,4 @@
+-- `typing::arith_tag` meets its contract. Assumes nothing.
 use mathlib.Core.Path.{refl}  -- filled
 use native.Mathlib.Omega.{arith}  -- filled
 use borrow.Author.Needs.{needs}

@@ -1,3 +1,4 @@
+-- `typing::block_addr` meets its contract. Assumes nothing.
 use mathlib.Core.Path.{refl}  -- filled
 use borrow.Author.Needs.{needs}
 use Rattle.typing.proofs.block_addr.Statement.{statement}

@@ -1,3 +1,4 @@
+-- `typing::block_entry` meets its contract. Assumes nothing.
 use Prim.Native.Nat.{_<_}  -- filled
 use mir.Syntax.{w32}  -- filled
 use mir.ValLaws.{toZ-pos}  -- filled

@@ -1,3 +1,4 @@
+-- `typing::either_addr` meets its contract. Assumes nothing.
 use mathlib.Core.Path.{_∙_, refl, sym}  -- filled
 use borrow.Author.Needs.{needs}
 use Rattle.typing.proofs.either_addr.Statement.{statement}

@@ -1,3 +1,4 @@
+-- `typing::fetch_to` meets its contract. Assumes nothing.
 use mathlib.Core.Path.{refl}  -- filled
 use borrow.Author.Needs.{needs}
 use Rattle.typing.proofs.fetch_to.Statement.{statement}

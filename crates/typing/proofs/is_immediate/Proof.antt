@@ -1,3 +1,4 @@
+-- `typing::is_immediate` meets its contract. Assumes nothing.
 use mathlib.Core.Path.{refl}  -- filled
 use borrow.Author.Needs.{needs}
 use Rattle.typing.proofs.is_immediate.Statement.{statement}

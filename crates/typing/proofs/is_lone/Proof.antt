@@ -1,3 +1,4 @@
+-- `typing::is_lone` meets its contract. Assumes nothing.
 use borrow.Author.Tests.{eq-eqb, ne-eqb}  -- filled
 use mathlib.Core.Path.{refl}  -- filled
 use borrow.Author.Needs.{needs}

@@ -1,3 +1,4 @@
+-- `typing::leaf` meets its contract. Assumes nothing.
 use Rattle.program.proofs.Walk.{leaf-rest}
 use Rattle.typing.specs.Walk.{form}
 use Rattle.rules.specs.View.{formOf}

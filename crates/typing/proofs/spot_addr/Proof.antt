@@ -1,3 +1,4 @@
+-- `typing::spot_addr` meets its contract. Assumes nothing.
 use borrow.Author.Needs.{needs}
 use Rattle.typing.proofs.spot_addr.Statement.{statement}
 use Rattle.typing.proofs.spot_addr.Tie as tie

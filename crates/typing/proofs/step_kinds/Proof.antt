@@ -1,3 +1,4 @@
+-- `typing::step_kinds` meets its contract. Assumes nothing.
 use mathlib.Core.Path.{refl}  -- filled
 use borrow.Author.Needs.{needs}
 use Rattle.typing.proofs.step_kinds.Statement.{statement}

@@ -1,3 +1,4 @@
+-- `typing::step_to` meets its contract. Assumes nothing.
 use Rattle.typing.proofs.Laws.{near}  -- filled
 use mathlib.Core.Path.{_∙_, refl, sym}  -- filled
 use borrow.Author.Needs.{needs}

@@ -1,3 +1,4 @@
+-- `typing::suits_tag` meets its contract. Assumes nothing.
 use borrow.Author.Needs.{needs}
 use Rattle.typing.proofs.suits_tag.Statement.{statement}
 use Rattle.typing.proofs.suits_tag.Tie as tie

@@ -1,3 +1,4 @@
+-- `typing::two_operands` meets its contract. Assumes nothing.
 use Rattle.program.proofs.Walk.{two-rest}
 use Rattle.typing.specs.Walk.{form}
 use Rattle.rules.specs.View.{formOf}

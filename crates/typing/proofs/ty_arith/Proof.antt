@@ -1,3 +1,4 @@
+-- `typing::ty_arith` meets its contract. Assumes nothing.
 use Rattle.rules.specs.Typing.{tyArith}  -- filled
 use mathlib.Core.Path.{refl}  -- filled
 use borrow.Author.Needs.{needs}

@@ -1,3 +1,4 @@
+-- `typing::ty_fetch` meets its contract. Assumes nothing.
 use Rattle.rules.specs.Typing.{tyFetch}  -- filled
 use mathlib.Core.Path.{refl, sym}  -- filled
 use borrow.Author.Needs.{needs}

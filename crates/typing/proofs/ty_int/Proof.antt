@@ -1,3 +1,4 @@
+-- `typing::ty_int` meets its contract. Assumes nothing.
 use Rattle.rules.specs.Typing.{tyInt}  -- filled
 use mathlib.Core.Path.{refl, sym}  -- filled
 use borrow.Author.Needs.{needs}

@@ -1,3 +1,4 @@
+-- `typing::ty_step` meets its contract. Assumes nothing.
 use Rattle.rules.specs.Typing.{tyStep}  -- filled
 use mathlib.Core.Path.{refl}  -- filled
 use borrow.Author.Needs.{needs}

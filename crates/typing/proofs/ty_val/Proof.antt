@@ -1,3 +1,4 @@
+-- `typing::ty_val` meets its contract. Assumes nothing.
 use Rattle.rules.specs.Typing.{tyVal}  -- filled
 use mathlib.Core.Path.{refl, sym}  -- filled
 use borrow.Author.Needs.{needs}

@@ -1,3 +1,4 @@
+-- `typing::var_coded` meets its contract. Assumes nothing.
 use Rattle.rules.specs.Typing.{tyVar}
 use borrow.Author.Tests.{le-ltb, lt-ltb}
 use Rattle.coded.specs.Coded.{envOf}

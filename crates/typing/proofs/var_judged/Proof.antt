@@ -1,3 +1,4 @@
+-- `typing::var_judged` meets its contract. Assumes nothing.
 use Rattle.rules.specs.Typing.{tyVar}  -- filled
 use borrow.Author.Tests.{le-ltb, lt-ltb}  -- filled
 use borrow.Author.Needs.{needs}
