@@ -25,12 +25,12 @@ use Rattle.rules.specs.Body.{refuse, ruleSet, rulePut, ruleGoto, ruleIf, ruleIf
 use Rattle.table.proofs.Passes.{first-append}
 use Rattle.program.specs.declared.Stored.{Stored}
 use Rattle.coded.specs.Coded.{entryIn, envOf}
-use Rattle.program.specs.Lines.{storedAt}
+use Rattle.program.specs.Lines.{storedAt, tablesOf}
 use Rattle.program.specs.Labels.{envFrom}
 use Rattle.program.specs.Nodes.{afterOf}
 use Rattle.program.proofs.Laws.{env-in, line-view, line-in, line-drop}
 use Rattle.program.proofs.Walk.{NoneTo, way-rest, with-one, with-two}
-use Rattle.body.specs.Lines.{lent, labelLine, lineIn, lineAt, numbersIn, localsIn, linesIn, typesIn}
+use Rattle.body.specs.Lines.{labelLine, lineIn, lineAt, numbersIn, localsIn, linesIn, typesIn}
 
 -- ---- labels
 
@@ -59,16 +59,16 @@ module _ (Γ : Env) (C : List ℕ) (n : ℕ) (e : Γ ≡ envOf C n) where
 
 module _ (Z R D L N B : List ℕ) (b : Bool) (Γ : Env) (i : ℕ) (s : Stored) (e : s ≡ storedAt B i) where
   abbrev line : Line
-  line = lineAt (lent Z R D L N B) b Γ i
+  line = lineAt (tablesOf Z N R D L B) b Γ i
 
   abbrev judgedAt : ℕ → Judged
   judgedAt k = type (rowsFrom Z R) (varsFrom Z D) Γ (treeOf (treeAt N 16 k))
 
-  by-way : (w : Way) → wayOf (s .kind) ≡ w → line ≡ lineIn (lent Z R D L N B) b Γ (stmtOf N w (s .label) (s .variable) (s .word) (s .node))
+  by-way : (w : Way) → wayOf (s .kind) ≡ w → line ≡ lineIn (tablesOf Z N R D L B) b Γ (stmtOf N w (s .label) (s .variable) (s .word) (s .node))
   unfolding lineAt
   by-way w q = rw (line-view N B i, sym e, q)
 
-  by-kind : (n : ℕ) → s .kind ≡ n → line ≡ lineIn (lent Z R D L N B) b Γ (stmtOf N (wayOf n) (s .label) (s .variable) (s .word) (s .node))
+  by-kind : (n : ℕ) → s .kind ≡ n → line ≡ lineIn (tablesOf Z N R D L B) b Γ (stmtOf N (wayOf n) (s .label) (s .variable) (s .word) (s .node))
   by-kind n q = by-way (wayOf n) (ap wayOf q)
 
   pub set-line : s .kind ≡ 1 → line ≡ reached b Γ (ruleSet (varsFrom Z D) (s .variable) (judgedAt (s .node)) Γ)

@@ -18,9 +18,6 @@ use Rattle.body.specs.declared.Then.{Then}
 use Rattle.body.specs.declared.Then.the-variants.{Stays, Takes, Label}
 use Rattle.body.specs.declared.Deed.{Deed}
 
-abbrev pub lent : List ℕ → List ℕ → List ℕ → List ℕ → List ℕ → List ℕ → Tables
-lent Z R D L N B = record { size = Z; nodes = N; rows = R; vars = D; labels = L; body = B }
-
 -- the kinds of the lines with one expression: `set`, `if`, `return`
 abbrev pub HasOne : ℕ → Type 0
 HasOne n = (n ≡ 1) ⊎ ((n ≡ 4) ⊎ (n ≡ 8))

@@ -14,9 +14,10 @@ ghost use Rattle.rules.specs.Environments.{noVar, withEntry, withTag, localEntr
 ghost use Rattle.rules.specs.Body.{goes, refuse, jump, isBox, isImm, putAt, ruleSet, rulePut, ruleGoto, ruleIf, ruleIfimm, ruleIftag, ruleIfint, ruleReturn, reached, localLine, isEnd, ends};
 ghost use Rattle.program.specs.Labels.{envFrom};
 ghost use Rattle.program.specs.Nodes.{afterOf};
+ghost use Rattle.program.specs.Lines.{tablesOf};
 ghost use Rattle.rules.specs.declared.Env.{Env};
 ghost use Rattle.coded.specs.Coded.{envOf};
-ghost use Rattle.body.specs.Lines.{HasOne, lent, left, lineBy, labelLine, lineAt, localsIn, linesIn, typesIn};
+ghost use Rattle.body.specs.Lines.{HasOne, left, lineBy, labelLine, lineAt, localsIn, linesIn, typesIn};
 use number::Index;
 use rules::Addr;
 use rules::Answer;
@@ -466,7 +467,7 @@ fn deed_of(
     i: usize,
 ) -> Deed
     requires { ⌜ env ≡ envOf (now codes) (env .count) ⌝ }
-    ensures { λ r. ⌜ lineBy (now (labels .entry)) (length (varsFrom (now (size .entry)) (now (vars .entry)))) env r ≡ lineAt (lent (now (size .entry)) (now (rows .entry)) (now (vars .entry)) (now (labels .entry)) (now (nodes .entry)) (now (body .entry))) on env i ⌝ }
+    ensures { λ r. ⌜ lineBy (now (labels .entry)) (length (varsFrom (now (size .entry)) (now (vars .entry)))) env r ≡ lineAt (tablesOf (now (size .entry)) (now (nodes .entry)) (now (rows .entry)) (now (vars .entry)) (now (labels .entry)) (now (body .entry))) on env i ⌝ }
 {
     let s = program::line_at(body, i);
     let kind = s.kind;
@@ -530,7 +531,7 @@ fn local_line(size: &[u32; 6], rows: &[u32; 17536], vars: &[u32; 96], v: usize) 
 
 // The lines of the variables. They stand after `ret` and the rows.
 fn locals_typed(size: &[u32; 6], rows: &[u32; 17536], vars: &[u32; 96]) -> Answer
-    ensures { λ r. ⌜ ((L N B : List ℕ) → r ≡ localsIn (lent (now (size .entry)) (now (rows .entry)) (now (vars .entry)) L N B)) ⌝ }
+    ensures { λ r. ⌜ ((L N B : List ℕ) → r ≡ localsIn (tablesOf (now (size .entry)) N (now (rows .entry)) (now (vars .entry)) L B)) ⌝ }
 {
     let from = 2 + program::row_count(size);
     let n = program::var_count(size);
@@ -598,7 +599,7 @@ fn lines_typed(
     nodes: &[u64; 4096],
     body: &[u32; 2560],
 ) -> Answer
-    ensures { λ r. ⌜ r ≡ linesIn (lent (now (size .entry)) (now (rows .entry)) (now (vars .entry)) (now (labels .entry)) (now (nodes .entry)) (now (body .entry))) ⌝ }
+    ensures { λ r. ⌜ r ≡ linesIn (tablesOf (now (size .entry)) (now (nodes .entry)) (now (rows .entry)) (now (vars .entry)) (now (labels .entry)) (now (body .entry))) ⌝ }
 {
     let count = program::var_count(size);
     let from = 2 + program::row_count(size) + count;
@@ -642,7 +643,7 @@ pub fn typed(
     nodes: &[u64; 4096],
     body: &[u32; 2560],
 ) -> Answer
-    ensures { λ r. ⌜ r ≡ typesIn (lent (now (size .entry)) (now (rows .entry)) (now (vars .entry)) (now (labels .entry)) (now (nodes .entry)) (now (body .entry))) ⌝ }
+    ensures { λ r. ⌜ r ≡ typesIn (tablesOf (now (size .entry)) (now (nodes .entry)) (now (rows .entry)) (now (vars .entry)) (now (labels .entry)) (now (body .entry))) ⌝ }
 {
     let a = locals_typed(size, rows, vars);
     let n = a.number;
@@ -677,7 +678,7 @@ fn is_end(body: &[u32; 2560], i: usize) -> bool
 
 // 13: the last line of the file is neither `goto` nor `return`.
 pub fn ended(size: &[u32; 6], body: &[u32; 2560]) -> Answer
-    ensures { λ r. ⌜ ((R D L N : List ℕ) → r ≡ ends (program (lent (now (size .entry)) R D L N (now (body .entry))))) ⌝ }
+    ensures { λ r. ⌜ ((R D L N : List ℕ) → r ≡ ends (program (tablesOf (now (size .entry)) N R D L (now (body .entry))))) ⌝ }
 {
     let n = program::line_count(size);
     let last = 1 + program::row_count(size) + program::var_count(size) + n;

@@ -1,7 +1,8 @@
 -- `lines_typed`: what is left of the lines gives what all give, and the numbers stand for the environment. Assumes nothing.
 use Prim.Native.Nat.{ℕ, _-_, _≤_}
 use Rattle.body.proofs.Laws.{ahead, ahead-end, ahead-no, ahead-on, lines-start, own-count, takes-in, takes-past}
-use Rattle.body.specs.Lines.{lent, left, linesIn}
+use Rattle.body.specs.Lines.{left, linesIn}
+use Rattle.program.specs.Lines.{tablesOf}
 use Rattle.coded.specs.Coded.{envOf}
 use Rattle.coded.proofs.Laws.{env-label}
 use Rattle.rules.specs.Environments.{withEntry}
@@ -17,7 +18,7 @@ use Rattle.body.proofs.lines_typed.Statement.{statement}
 use Rattle.body.proofs.lines_typed.Tie as tie
 
 abbrev Inv-loop : tie.InvT-loop
-Inv-loop size rows vars labels nodes body count from n live₀ codes₀ env₀ i₀ live codes env i = ((i ≤ n) × (env ≡ envOf codes count)) × (ahead (lent size rows vars labels nodes body) from i live env ≡ linesIn (lent size rows vars labels nodes body))
+Inv-loop size rows vars labels nodes body count from n live₀ codes₀ env₀ i₀ live codes env i = ((i ≤ n) × (env ≡ envOf codes count)) × (ahead (tablesOf size nodes rows vars labels body) from i live env ≡ linesIn (tablesOf size nodes rows vars labels body))
 
 abbrev μ-loop : tie.MeasureT-loop
 μ-loop size rows vars labels nodes body count from n live₀ codes₀ env₀ i₀ live codes env i = n - i
@@ -45,7 +46,7 @@ loop-again c =
     (w .7 ∙ p ∙ takes-in _ _ _ e _ _ _ (w .4 .ensures .1 count) ∙ kept _ (w .6), w .7 ∙ rw (w .1 .given .1) p))
     (λ w. (w .7 ∙ w .5 .ensures ∙ kept _ (w .6), w .7 ∙ rw (w .1 .given .1) (w .5 .ensures ∙ rw (w .3 .ensures, few) (env-label L _ m))))))
     (c .match .came) in
-    ((omega arith, both .0), rw (both .1) (sym (ahead-on (lent (a .size .now) (a .rows .now) (a .vars .now) L (a .nodes .now) (a .body .now)) _ _ _ _ _ h (c .before .before .deed-of .ensures) (c .before .if1 .left)) ∙ o .inv .1))
+    ((omega arith, both .0), rw (both .1) (sym (ahead-on (tablesOf (a .size .now) (a .nodes .now) (a .rows .now) (a .vars .now) L (a .body .now)) _ _ _ _ _ h (c .before .before .deed-of .ensures) (c .before .if1 .left)) ∙ o .inv .1))
 
 pub lines-typed-spec : {M : Type 1} → statement M
 unfolding withEntry
@@ -61,11 +62,11 @@ lines-typed-spec =
     (λ c κs. search needs)  -- line-count-requires
     (λ c κs. search needs)  -- start-codes-requires
     (λ c κs. search needs)  -- env-of-requires
-    (λ c. let a = c .before .before .before .before .before .before .args in let n = c .before .before .before .before .before .var-count .ensures (a .vars .now) in ((omega arith, c .env-of .ensures), lines-start (lent (a .size .now) (a .rows .now) (a .vars .now) (a .labels .now) (a .nodes .now) (a .body .now)) _ _ _ (c .before .before .before .before .row-count .ensures _) n (c .env-of .ensures ∙ ap (envOf (c .before .before .start-codes .result)) n ∙ c .before .before .start-codes .ensures)))  -- loop-holds
+    (λ c. let a = c .before .before .before .before .before .before .args in let n = c .before .before .before .before .before .var-count .ensures (a .vars .now) in ((omega arith, c .env-of .ensures), lines-start (tablesOf (a .size .now) (a .nodes .now) (a .rows .now) (a .vars .now) (a .labels .now) (a .body .now)) _ _ _ (c .before .before .before .before .row-count .ensures _) n (c .env-of .ensures ∙ ap (envOf (c .before .before .start-codes .result)) n ∙ c .before .before .start-codes .ensures)))  -- loop-holds
     (λ c κs. own-count _ _ _ (c .before .before .loop .inv .0 .1))  -- deed-of-requires
     (λ c. let Z = c .before .before .before .before .before .before .before .before .before .before .before .args .size .now in omega (arith, c .before .before .before .before .before .before .before .before .before .row-count .ensures [], rows-small Z [], c .before .before .before .before .before .before .before .before .before .before .var-count .ensures [], vars-small Z [], c .before .before .before .before .before .before .before .before .line-count .ensures [] [], lines-small Z [] []))  -- add-answered
     (λ c κs. search needs)  -- answered-requires
-    (λ c. let a = c .before .before .before .before .before .before .before .before .before .before .before .before .args in let h = rw (c .before .before .before .before .before .before .before .before .before .line-count .ensures (a .nodes .now) (a .body .now)) at (c .before .before .before .before .loop-test .taken) in c .answered .ensures ∙ sym (ahead-no (lent (a .size .now) (a .rows .now) (a .vars .now) (a .labels .now) (a .nodes .now) (a .body .now)) _ _ _ _ _ h (c .before .before .deed-of .ensures) (c .before .if1 .taken)) ∙ c .before .before .before .before .before .loop .inv .1)  -- returns
+    (λ c. let a = c .before .before .before .before .before .before .before .before .before .before .before .before .args in let h = rw (c .before .before .before .before .before .before .before .before .before .line-count .ensures (a .nodes .now) (a .body .now)) at (c .before .before .before .before .loop-test .taken) in c .answered .ensures ∙ sym (ahead-no (tablesOf (a .size .now) (a .nodes .now) (a .rows .now) (a .vars .now) (a .labels .now) (a .body .now)) _ _ _ _ _ h (c .before .before .deed-of .ensures) (c .before .if1 .taken)) ∙ c .before .before .before .before .before .loop .inv .1)  -- returns
     (λ c. c .match .keys1)  -- enum-told
     (λ c. search needs)  -- enum-known-then
     (λ c κs. search needs)  -- put-entry-requires
@@ -78,4 +79,4 @@ lines-typed-spec =
     (λ c. omega arith)  -- loop-less
     loop-again
     (λ c κs. search needs)  -- accepted-requires
-    (λ c. let a = c .before .before .before .before .before .before .before .before .before .args in let h = rw (c .before .before .before .before .before .before .line-count .ensures (a .nodes .now) (a .body .now)) at (c .before .loop-test .left) in c .accepted .ensures ∙ sym (ahead-end (lent (a .size .now) (a .rows .now) (a .vars .now) (a .labels .now) (a .nodes .now) (a .body .now)) _ _ _ _ h) ∙ c .before .before .loop .inv .1))  -- returns-2
+    (λ c. let a = c .before .before .before .before .before .before .before .before .before .args in let h = rw (c .before .before .before .before .before .before .line-count .ensures (a .nodes .now) (a .body .now)) at (c .before .loop-test .left) in c .accepted .ensures ∙ sym (ahead-end (tablesOf (a .size .now) (a .nodes .now) (a .rows .now) (a .vars .now) (a .labels .now) (a .body .now)) _ _ _ _ h) ∙ c .before .before .loop .inv .1))  -- returns-2
