@@ -6,12 +6,20 @@ use Rattle.rules.specs.Text.Shape.{inOrder}
 use Rattle.shape.proofs.in_order.Statement.{statement}
 use Rattle.shape.proofs.in_order.Tie as tie
 
+returns : tie.Need-returns
+unfolding inOrder
+returns c = rw (eq-eqb (c .before .args .k) 1 (c .if1 .taken))
+
+returns-2 : tie.Need-returns-2
+unfolding inOrder
+returns-2 c = let a = c .before .before .args in rw (ne-eqb (a .k) 1 (c .before .if1 .left), c .if2 .taken)
+
 pub in-order-spec : {M : Type 1} → statement M
 unfolding inOrder
 in-order-spec =
     tie.close
     (tie.spec
-    (λ c. rw (eq-eqb (c .before .args .k) 1 (c .if1 .taken)))  -- returns
-    (λ c. let a = c .before .before .args in rw (ne-eqb (a .k) 1 (c .before .if1 .left), c .if2 .taken))  -- returns-2
+    returns
+    returns-2
     (λ c κs. search needs)  -- part-of-requires
     (λ c. let a = c .before .before .before .args in rw (ne-eqb (a .k) 1 (c .before .before .if1 .left), lt-ltb 0 (a .part) (pos-of-ne-zero (c .before .if2 .left)), c .part-of .ensures)))  -- returns-3

@@ -7,6 +7,10 @@ use Rattle.shape.proofs.Ways.{no-key}
 use Rattle.shape.proofs.line_shape.Statement.{statement}
 use Rattle.shape.proofs.line_shape.Tie as tie
 
+returns-13 : tie.Need-returns-13
+unfolding lineShape keyOf
+returns-13 c = let a = c .before .before .before .args in c .label-shape .ensures ∙ ap (λ (k : ℕ). lineShape (a .s .now) (a .vars) (keyOf k) (a .at)) (sym (c .before .match .keys13))
+
 pub line-shape-spec : {M : Type 1} → statement M
 unfolding lineShape keyOf
 line-shape-spec =
@@ -40,5 +44,5 @@ line-shape-spec =
     (λ c. let a = c .before .before .before .args in c .iftag-shape .ensures ∙ ap (λ (k : ℕ). lineShape (a .s .now) (a .vars) (keyOf k) (a .at)) (sym (c .before .match .keys10)))  -- returns-10
     (λ c. let a = c .before .before .before .args in c .iftag-shape2 .ensures ∙ ap (λ (k : ℕ). lineShape (a .s .now) (a .vars) (keyOf k) (a .at)) (sym (c .before .match .keys11)))  -- returns-11
     (λ c. let a = c .before .before .before .args in c .expr-shape .ensures ∙ ap (λ (k : ℕ). lineShape (a .s .now) (a .vars) (keyOf k) (a .at)) (sym (c .before .match .keys12)))  -- returns-12
-    (λ c. let a = c .before .before .before .args in c .label-shape .ensures ∙ ap (λ (k : ℕ). lineShape (a .s .now) (a .vars) (keyOf k) (a .at)) (sym (c .before .match .keys13)))  -- returns-13
+    returns-13
     (λ c. let a = c .before .before .args in ap (λ k. lineShape (a .s .now) (a .vars) k (a .at)) (sym (no-key (a .k) (c .match .rest)))))  -- returns-14
