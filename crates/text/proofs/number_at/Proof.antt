@@ -9,6 +9,12 @@ use Rattle.text.proofs.Ways.{after-minus, no-minus}
 use Rattle.text.proofs.number_at.Statement.{statement}
 use Rattle.text.proofs.number_at.Tie as tie
 
+returns-2 : tie.Need-returns-2
+returns-2 c = let a = c .before .before .before .before .before .before .before .args in sym (after-minus (a .s .now) (a .at) (c .before .before .before .before .before .byte-at .ensures) (c .before .before .before .before .if1 .left) ∙ ap minus (sym (c .before .before .before .magnitude-at .ensures) ∙ c .before .m .given .1))
+
+returns-3 : tie.Need-returns-3
+returns-3 c = let a = c .before .before .before .before .before .before .before .args in sym (after-minus (a .s .now) (a .at) (c .before .before .before .before .before .byte-at .ensures) (c .before .before .before .before .if1 .left) ∙ ap minus (sym (c .before .before .before .magnitude-at .ensures) ∙ c .before .m2 .given .1))
+
 pub number-at-spec : {M : Type 1} → statement M
 number-at-spec =
     tie.close
@@ -21,5 +27,5 @@ number-at-spec =
     (λ c. search needs)  -- enum-known-m
     (λ c. let a = c .before .before .before .before .before .before .before .args in omega (arith, magnitude-most (a .s .now) (a .at + 1) _ _ (sym (c .before .before .before .magnitude-at .ensures) ∙ c .before .m .given .1) (omega arith) (omega arith)))  -- sub-t11
     (λ c. search needs)  -- enum-known-m-2
-    (λ c. let a = c .before .before .before .before .before .before .before .args in sym (after-minus (a .s .now) (a .at) (c .before .before .before .before .before .byte-at .ensures) (c .before .before .before .before .if1 .left) ∙ ap minus (sym (c .before .before .before .magnitude-at .ensures) ∙ c .before .m .given .1)))  -- returns-2
-    (λ c. let a = c .before .before .before .before .before .before .before .args in sym (after-minus (a .s .now) (a .at) (c .before .before .before .before .before .byte-at .ensures) (c .before .before .before .before .if1 .left) ∙ ap minus (sym (c .before .before .before .magnitude-at .ensures) ∙ c .before .m2 .given .1))))  -- returns-3
+    returns-2
+    returns-3)

@@ -21,5 +21,5 @@ or-word-spec =
     (λ c. let a = c .before .before .before .before .before .before .before .args in omega (arith, agreed-in (a .w .now) (a .s .now) (a .at)))  -- add-larger
     (λ c κs. search needs)  -- larger-requires
     (λ c. let a = c .before .before .before .before .before .args in sym (ap (orWord (a .s .now) (a .at) (a .w .now) (a .k)) (c .before .found .given .1)))  -- returns
-    (λ c. let a = c .before .before .before .before .before .before .before .args in let f = c .before .before .before .found2 .given in sym (ap (orWord (a .s .now) (a .at) (a .w .now) (a .k)) (f .1) ∙ or-hit (a .s .now) (a .at) (a .w .now) (a .k) (f .0 .0) (c .before .agree .result) (c .before .agree .ensures) (c .if1 .taken)))  -- returns-2
+    (λ c. let a = c .before .before .before .before .before .before .before .args in let f = c .before .before .before .found2 .given in sym (ap (orWord (a .s .now) (a .at) (a .w .now) (a .k)) (f .1) ∙ or-hit (a .s .now) (a .at) (a .w .now) (a .k) (f .0 .0) (c .before .agree .result) (c .before .agree .ensures) (omega arith)))  -- returns-2
     (λ c. let a = c .before .before .before .before .before .before .before .before .args in let f = c .before .before .before .before .found2 .given in ap Bad (c .larger .ensures) ∙ sym (ap (orWord (a .s .now) (a .at) (a .w .now) (a .k)) (f .1) ∙ or-miss (a .s .now) (a .at) (a .w .now) (a .k) (f .0 .0) (c .before .before .agree .result) (c .before .before .agree .ensures) (c .before .if1 .left))))  -- returns-3
