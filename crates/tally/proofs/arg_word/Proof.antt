@@ -10,6 +10,9 @@ use native.Mathlib.Omega.{arith}
 use Rattle.tally.proofs.arg_word.Statement.{statement}
 use Rattle.tally.proofs.arg_word.Tie as tie
 
+returns : tie.Need-returns
+returns c = let a = c .before .before .before .before .before .args in let s = a .s .now in c .datum-of .ensures ∙ ap (datumOf 4294967296) (c .before .number-at .ensures) ∙ sym (arg-int s (a .at) (c .before .before .before .byte-at .ensures) (c .before .before .if1 .taken))
+
 pub arg-word-spec : {M : Type 1} → statement M
 arg-word-spec =
     tie.close
@@ -19,5 +22,5 @@ arg-word-spec =
     (λ c κs. search needs)  -- number-at-requires
     (λ c κs. let a = c .before .before .before .before .args in let s = a .s .now in (omega arith, omega (arith, ap valueOf (c .number-at .ensures), value-most (number-reads s (a .at + 1)))))  -- datum-of-requires
     (λ c κs. search needs)  -- cell-word-requires
-    (λ c. let a = c .before .before .before .before .before .args in let s = a .s .now in c .datum-of .ensures ∙ ap (datumOf 4294967296) (c .before .number-at .ensures) ∙ sym (arg-int s (a .at) (c .before .before .before .byte-at .ensures) (c .before .before .if1 .taken)))  -- returns
+    returns
     (λ c. let a = c .before .before .before .before .args in let s = a .s .now in c .cell-word .ensures ∙ sym (arg-cell s (a .at) (c .before .before .byte-at .ensures) (c .before .if1 .left))))  -- returns-2

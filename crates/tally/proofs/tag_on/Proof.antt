@@ -10,6 +10,9 @@ use native.Mathlib.Omega.{arith}
 use Rattle.tally.proofs.tag_on.Statement.{statement}
 use Rattle.tally.proofs.tag_on.Tie as tie
 
+returns-2 : tie.Need-returns-2
+returns-2 c = let a = c .before .before .before .before .before .before .before .before .args in let s = a .s .now in a-space s (λ m. spaced s (cellsFrom s (length s) 0) (numberAt s m)) (c .before .before .before .before .before .r .given .1) (c .before .before .before .byte-at .ensures) (c .before .before .if1 .left) (c .cells-on .ensures ∙ ap (spaced s (cellsFrom s (length s) 0)) (c .before .number-at .ensures))
+
 pub tag-on-spec : {M : Type 1} → statement M
 tag-on-spec =
     tie.close
@@ -21,5 +24,5 @@ tag-on-spec =
     (λ c κs. search needs)  -- number-at-requires
     (λ c κs. search needs)  -- cells-on-requires
     (λ c. search needs)  -- enum-known-r-2
-    (λ c. let a = c .before .before .before .before .before .before .before .before .args in let s = a .s .now in a-space s (λ m. spaced s (cellsFrom s (length s) 0) (numberAt s m)) (c .before .before .before .before .before .r .given .1) (c .before .before .before .byte-at .ensures) (c .before .before .if1 .left) (c .cells-on .ensures ∙ ap (spaced s (cellsFrom s (length s) 0)) (c .before .number-at .ensures)))  -- returns-2
+    returns-2
     (λ c. let a = c .before .before .before .before .args in let s = a .s .now in after-bad s (λ m. spaced s (cellsFrom s (length s) 0) (numberAt s m)) (c .before .r2 .given .1)))  -- returns-3
