@@ -11,5 +11,5 @@ is-label-spec =
     tie.close
     (tie.spec
     (λ c. search needs)  -- cast-result
-    (λ c. rw (eq-eqb _ _ (c .if1 .taken)))  -- returns
+    (λ c. rw (eq-eqb _ 9 (c .if1 .taken)))  -- returns
     (λ c. rw (ne-eqb _ _ (c .if1 .left))))  -- returns-2

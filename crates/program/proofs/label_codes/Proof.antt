@@ -19,6 +19,9 @@ Inv-loop labels l codes₀ k₀ codes k = (k ≤ 96) × (entered (96 - k) k (at 
 abbrev μ-loop : tie.MeasureT-loop
 μ-loop labels l codes₀ k₀ codes k = 96 - k
 
+loop-again : tie.Need-loop-again Inv-loop μ-loop
+loop-again c = (omega arith, entered-step _ _ _ _ _ (c .before .loop-test .taken) (c .label-cell .ensures) ∙ c .before .before .loop .inv .1)
+
 pub label-codes-spec : {M : Type 1} → statement M
 unfolding codesFrom
 label-codes-spec =
@@ -33,5 +36,5 @@ label-codes-spec =
     (λ c. search needs)  -- array-write-codes
     (λ c. search needs)  -- add-k
     (λ c. search needs)  -- loop-less
-    (λ c. (omega arith, entered-step _ _ _ _ _ (c .before .loop-test .taken) (c .label-cell .ensures) ∙ c .before .before .loop .inv .1))  -- loop-again
+    loop-again
     (λ c. sym (entered-end _ _ _ _ (c .loop-test .left)) ∙ c .before .loop .inv .1 ∙ numbers-all (at (c .before .before .args .labels .now) (c .before .before .args .l))))  -- returns

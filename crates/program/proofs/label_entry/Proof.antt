@@ -6,6 +6,11 @@ use borrow.Author.Needs.{needs}
 use Rattle.program.proofs.label_entry.Statement.{statement}
 use Rattle.program.proofs.label_entry.Tie as tie
 
+returns-2 : tie.Need-returns-2
+returns-2 c =
+    let a = c .before .before .before .before .args in
+    c .no-entry .ensures ∙ sym (entry-past (a .size .now) (a .labels .now) (a .l) _ (below (c .before .before .before .label-count .ensures _) (c .before .before .if1 .taken)) (c .before .if2 .left))
+
 pub label-entry-spec : {M : Type 1} → statement M
 label-entry-spec =
     tie.close
@@ -15,5 +20,5 @@ label-entry-spec =
     (λ c κs. search needs)  -- no-entry-requires
     (λ c κs. search needs)  -- no-entry-requires-2
     (λ c. let a = c .before .before .before .before .args in c .entry-at .ensures ∙ sym (entry-in (a .size .now) (a .labels .now) (a .l) _ (below (c .before .before .before .label-count .ensures _) (c .before .before .if1 .taken)) (c .before .if2 .taken)))  -- returns
-    (λ c. let a = c .before .before .before .before .args in c .no-entry .ensures ∙ sym (entry-past (a .size .now) (a .labels .now) (a .l) _ (below (c .before .before .before .label-count .ensures _) (c .before .before .if1 .taken)) (c .before .if2 .left)))  -- returns-2
+    returns-2
     (λ c. let a = c .before .before .before .args in c .no-entry2 .ensures ∙ sym (entry-out (a .size .now) (a .labels .now) (a .l) _ (above (c .before .before .label-count .ensures _) (c .before .if1 .left)))))  -- returns-3

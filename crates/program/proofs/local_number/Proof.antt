@@ -9,13 +9,23 @@ use borrow.Author.Needs.{needs}
 use Rattle.program.proofs.local_number.Statement.{statement}
 use Rattle.program.proofs.local_number.Tie as tie
 
-pub local-number-spec : {M : Type 1} → statement M
+returns : tie.Need-returns
 unfolding varFrom
+returns c =
+    let a = c .before .before .before .before .args in
+    c .number .ensures ∙ ap numCode (c .before .var-cell .ensures) ∙ sym (ap (λ (x : Var). x .number) (var-in (a .size .now) (a .vars .now) (a .v) (below (c .before .before .before .var-count .ensures _) (c .before .before .if1 .taken))))
+
+returns-2 : tie.Need-returns-2
+returns-2 c =
+    let a = c .before .before .args in
+    sym (ap (λ (x : Var). x .number) (var-out (a .size .now) (a .vars .now) (a .v) (above (c .before .var-count .ensures _) (c .if1 .left))))
+
+pub local-number-spec : {M : Type 1} → statement M
 local-number-spec =
     tie.close
     (tie.spec
     (λ c κs. search needs)  -- var-count-requires
     (λ c κs. search needs)  -- var-cell-requires
     (λ c κs. search needs)  -- number-requires
-    (λ c. let a = c .before .before .before .before .args in c .number .ensures ∙ ap numCode (c .before .var-cell .ensures) ∙ sym (ap (λ (x : Var). x .number) (var-in (a .size .now) (a .vars .now) (a .v) (below (c .before .before .before .var-count .ensures _) (c .before .before .if1 .taken)))))  -- returns
-    (λ c. let a = c .before .before .args in sym (ap (λ (x : Var). x .number) (var-out (a .size .now) (a .vars .now) (a .v) (above (c .before .var-count .ensures _) (c .if1 .left))))))  -- returns-2
+    returns
+    returns-2)

@@ -8,6 +8,11 @@ use borrow.Author.Needs.{needs}
 use Rattle.program.proofs.psi_of.Statement.{statement}
 use Rattle.program.proofs.psi_of.Tie as tie
 
+returns : tie.Need-returns
+returns c =
+    let a = c .before .before .before .before .args in
+    c .psi-code .ensures ∙ ap psiCode (c .before .row-cell .ensures) ∙ sym (psi-in (a .size .now) (a .rows .now) (a .r) (below (c .before .before .before .row-count .ensures _) (c .before .before .if1 .taken)))
+
 pub psi-of-spec : {M : Type 1} → statement M
 psi-of-spec =
     tie.close
@@ -15,5 +20,5 @@ psi-of-spec =
     (λ c κs. search needs)  -- row-count-requires
     (λ c κs. search needs)  -- row-cell-requires
     (λ c κs. search needs)  -- psi-code-requires
-    (λ c. let a = c .before .before .before .before .args in c .psi-code .ensures ∙ ap psiCode (c .before .row-cell .ensures) ∙ sym (psi-in (a .size .now) (a .rows .now) (a .r) (below (c .before .before .before .row-count .ensures _) (c .before .before .if1 .taken))))  -- returns
+    returns
     (λ c. let a = c .before .before .args in sym (psi-absent (rowsFrom (a .size .now) (a .rows .now)) (a .r) (above (c .before .row-count .ensures _) (c .if1 .left)))))  -- returns-2
