@@ -1,4 +1,4 @@
--- The tests of `iftag`, how many variables there are, and a body line by the number of its kind. Assumes nothing.
+-- The tests of `iftag`, the two expressions of a `put`, and a body line by the number of its kind. Assumes nothing.
 use native.Mathlib.Omega.{arith as lin}
 use borrow.Author.Tests.{lt-ltb, le-ltb, eq-eqb, ne-eqb}
 use mathlib.Core.Path.{_≡_, sym, ap, _∙_}
@@ -14,10 +14,13 @@ use Rattle.rules.specs.declared.Given.the-variants.{Has}
 use Rattle.rules.specs.declared.Act.{Act}
 use Rattle.rules.specs.declared.Act.the-variants.{Stuck}
 use Rattle.rules.specs.Numbers.{eqZ, numCode}
-use Rattle.rules.specs.Program.{Prog, Stmt, badS}
+use Rattle.rules.specs.Program.{Prog, Rows, Stmt, badS}
 use Rattle.rules.specs.View.{treeOf, treeAt, Way, noW, wayOf, stmtOf, stmtFrom, rowsFrom, varsFrom, bodyFrom, program}
 use Rattle.rules.specs.Machine.{Store, tagIn, evVar, eval, jumpOn, actSet, actPut, actIf, actIfimm, actIftag, actIfint, actReturn, act, decide}
 use Rattle.rules.specs.Machine.Tables.{storeOf, valsOf}
+use Rattle.eval.specs.declared.Gave.{Gave}
+use Rattle.eval.specs.Walk.{gaveAt}
+use Rattle.eval.proofs.Laws.{after-of, tree-of}
 use Rattle.program.specs.declared.Stored.{Stored}
 use Rattle.program.specs.Lines.{storedAt, tablesOf}
 use Rattle.program.specs.Nodes.{afterOf}
@@ -39,6 +42,16 @@ module _ (P : Prog) (s : Store) (l : ℕ) (n : Num) (b o k : ℕ) (e : k ≡ len
   pub tag-inside : (o ≡ 0 → ⊥) → Stuck ≡ actIftag P s l n (Has (Place b o))
   unfolding actIftag
   tag-inside z = rw (ne-eqb o 0 z)
+
+-- ---- the expressions of a `put`
+
+-- the second begins at the node after the first
+module _ (ρ : Rows) (σ : Store) (δ : List Given) (N : List ℕ) where
+  abbrev from : ℕ → Given
+  from k = eval ρ σ δ (treeOf (treeAt N 16 k))
+
+  pub put-both : (m : Num) (k : ℕ) (g : Gave) (y : Given) → g ≡ gaveAt ρ σ δ N 16 k → y ≡ from (g .next) → actPut σ m (g .given) y ≡ actPut σ m (from k) (from (afterOf (treeAt N 16 k)))
+  put-both m k g y e q = rw (q, after-of ρ σ δ N 16 k g e, tree-of ρ σ δ N 16 k g e)
 
 -- ---- the line by its kind
 
