@@ -53,6 +53,9 @@ shape-offset-at κs a x y s t = result
 pub shape-tag-at : Determined shape.tag_at.ended shape.tag_at.Reads.Learnt
 shape-tag-at κs a x y s t = result
 
+pub shape-between : Determined shape.between.ended shape.between.Reads.Learnt
+shape-between κs a x y s t = result
+
 pub shape-key-at : Determined shape.key_at.ended shape.key_at.Reads.Learnt
 shape-key-at κs a x y s t = result
 

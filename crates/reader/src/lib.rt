@@ -15,6 +15,7 @@ use rules::Filling;
 use rules::Limits;
 use rules::Next;
 use rules::Reading;
+use shape::between;
 use shape::boxed_at;
 use shape::in_order;
 use shape::key_at;
@@ -31,7 +32,7 @@ use text::plain_at;
 use text::value_of;
 use text::var_at;
 ghost use mathlib.Core.Path.{_≡_};
-ghost use mathlib.Core.Bool.{Bool, true, false, _&&_, _||_};
+ghost use mathlib.Core.Bool.{Bool, true, false, _&&_};
 ghost use mathlib.Core.List.{List};
 ghost use Prim.Native.Nat.{ℕ, _+_, _≤_, _<_};
 ghost use lib.Dec.{ltb, eqb};
@@ -267,13 +268,6 @@ fn fits(k: u8, o: u8, total: usize) -> bool
         return false;
     }
     total < Limits::FIELDS
-}
-
-// Whether a byte stands between two field rows.
-fn between(b: u64) -> bool
-    ensures { λ r. ⌜ r ≡ (eqb b 44 || eqb b 124) ⌝ }
-{
-    if b == 44 { true } else { b == 124 }
 }
 
 // The product and the field after the byte between two field rows: a comma, or a bar.

@@ -3,10 +3,8 @@ use native.Mathlib.Omega.{arith}
 use Rattle.rules.specs.Prelude.{ℕ, _+_, _≤_, max, List, length}
 use Rattle.rules.specs.declared.Reading.{Reading}
 use Rattle.rules.specs.Bytes.{bytes}
-use Rattle.rules.specs.Text.Shape.{kindWord, infWord, psiAt, boxedAt, anyWord, anyOr, offsetAt, tagAt, keyAt}
+use Rattle.rules.specs.Text.Shape.{kindWord, infWord, psiAt, boxedAt, anyWord, orRaised, offsetAt, tagAt, keyAt}
 use Rattle.text.proofs.Laws.{Reads, right, wrong, plain-reads, number-reads, or-reads}
-use Rattle.shape.specs.Raised.{raised}
-use Rattle.shape.proofs.Ways.{psi-raised, any-raised}
 
 -- ---- words
 
@@ -43,7 +41,7 @@ key-reads s at =
 
 -- a word, or a number that is raised by `more`
 raised-reads : {from to least most : ℕ} (more : ℕ) {w r : Reading} → least ≤ more
-    → Reads from to least (most + more) w → Reads from to 0 most r → Reads from to least (most + more) (raised more w r)
+    → Reads from to least (most + more) w → Reads from to 0 most r → Reads from to least (most + more) (orRaised more w r)
 raised-reads more h (right v n f t l m) r = right v n f t l m
 raised-reads more h (wrong p x) (right v n f t l m) = right (v + more) n f t (omega arith) (omega arith)
 raised-reads more h (wrong p x) (wrong q y) = wrong (max p q) (omega arith)
@@ -51,14 +49,12 @@ raised-reads more h (wrong p x) (wrong q y) = wrong (max p q) (omega arith)
 pub psi-reads : (s : List ℕ) (at : ℕ) → Reads (at + 1) (length s) 1 2147483649 (psiAt s at)
 unfolding psiAt infWord
 psi-reads s at =
-    rw (psi-raised)
-    (raised-reads 2 (omega arith) (or-reads s at (bytes "inf") 1 (omega arith) (omega arith) (omega arith) (wrong at (omega arith))) (plain-reads s at))
+    raised-reads 2 (omega arith) (or-reads s at (bytes "inf") 1 (omega arith) (omega arith) (omega arith) (wrong at (omega arith))) (plain-reads s at)
 
-any-reads : (s : List ℕ) (at : ℕ) {most : ℕ} {r : Reading} → Reads (at + 1) (length s) 0 most r → Reads (at + 1) (length s) 0 (most + 1) (anyOr (anyWord s at) r)
+any-reads : (s : List ℕ) (at : ℕ) {most : ℕ} {r : Reading} → Reads (at + 1) (length s) 0 most r → Reads (at + 1) (length s) 0 (most + 1) (orRaised 1 (anyWord s at) r)
 unfolding anyWord
 any-reads s at h =
-    rw (any-raised)
-    (raised-reads 1 (omega arith) (or-reads s at (bytes "any") 0 (omega arith) (omega arith) (omega arith) (wrong at (omega arith))) h)
+    raised-reads 1 (omega arith) (or-reads s at (bytes "any") 0 (omega arith) (omega arith) (omega arith) (wrong at (omega arith))) h
 
 pub offset-reads : (s : List ℕ) (at : ℕ) → Reads (at + 1) (length s) 0 2147483648 (offsetAt s at)
 unfolding offsetAt

@@ -15,9 +15,8 @@ use Rattle.rules.specs.declared.Head.the-variants.{Node, Not}
 use Rattle.rules.specs.Bytes.{bytes}
 use Rattle.rules.specs.Laws.Tests.{by-when}
 use Rattle.rules.specs.Text.Words.{byteAt, plainAt, byteIs, arity, headAt}
-use Rattle.rules.specs.Text.Shape.{after, over, end, space, needed, exprOn, exprsShape, psiOr, fieldsOn, fieldsShape, anyOr, entryShape, moreEntries, labelShape, noKey, keyAt, keyOf}
+use Rattle.rules.specs.Text.Shape.{after, over, end, space, needed, exprOn, exprsShape, fieldsOn, fieldsShape, entryShape, moreEntries, labelShape, noKey, keyAt, keyOf}
 use Rattle.text.proofs.Chain.{only, chain, chain-by}
-use Rattle.shape.specs.Raised.{raised}
 
 -- ---- one after the other: the code goes on from what came out, the definitions go into it
 
@@ -96,18 +95,6 @@ pub arity-most : (op : ℕ) → arity op ≤ 2
 unfolding arity
 arity-most op =
     by-when (λ (n : ℕ). n ≤ 2) (ltb op 3) _ _ (λ _. omega arith) (λ _. by-when (λ (n : ℕ). n ≤ 2) (ltb op 6) _ _ (λ _. omega arith) (λ _. omega arith))
-
--- ---- a word or a raised number
-
-pub psi-raised : (w r : Reading) → psiOr w r ≡ raised 2 w r
-psi-raised (Got k n) r = refl
-psi-raised (Bad p) (Got v n) = refl
-psi-raised (Bad p) (Bad q) = refl
-
-pub any-raised : (w r : Reading) → anyOr w r ≡ raised 1 w r
-any-raised (Got k n) r = refl
-any-raised (Bad p) (Got v n) = refl
-any-raised (Bad p) (Bad q) = refl
 
 -- ---- field rows: a turn reads the row r
 

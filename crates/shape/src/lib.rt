@@ -17,7 +17,6 @@ ghost use lib.Dec.{eqb};
 ghost use lib.ListN.{length};
 ghost use Rattle.rules.specs.Text.Words as words;
 ghost use Rattle.rules.specs.Text.Shape as shapes;
-ghost use Rattle.shape.specs.Raised.{raised};
 
 // ---- one after the other
 
@@ -142,7 +141,7 @@ fn larger(a: usize, b: usize) -> usize
 // The word found before, else the number and `more`.
 fn or_number(found: Reading, number: Reading, more: u64) -> Reading
     requires { ⌜ (words.valueOf number ≤ 4294967295) × (more ≤ 2) ⌝ }
-    ensures { λ r. ⌜ r ≡ raised more found number ⌝ }
+    ensures { λ r. ⌜ r ≡ shapes.orRaised more found number ⌝ }
 {
     match found {
         Reading::Got(k, n) => Reading::Got(k, n),
@@ -162,7 +161,7 @@ pub fn psi_at(s: &[u8], at: usize) -> Reading
 }
 
 // Whether a byte stands between two field rows.
-fn between(b: u64) -> bool
+pub fn between(b: u64) -> bool
     ensures { λ r. ⌜ r ≡ (eqb b 44 || eqb b 124) ⌝ }
 {
     if b == 44 { true } else { b == 124 }

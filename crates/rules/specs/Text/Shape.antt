@@ -64,17 +64,18 @@ kindShape s at = kindOn s (kindWord s at)
 unfoldable pub localShape : List ℕ → ℕ → Next
 localShape s at = over (kindShape s at) (space s (λ n. end (numberAt s n)))
 
+-- a word, or else a number, which stands raised by `more` in a table
+abbrev pub orRaised : ℕ → Reading → Reading → Reading
+orRaised more (Got k n) r = Got k n
+orRaised more (Bad p) (Got v n) = Got (v + more) n
+orRaised more (Bad p) (Bad q) = Bad (max p q)
+
 -- PSI: `inf`, or a number; `inf` is 1 in a table, n is n + 2
 unfoldable pub infWord : List ℕ → ℕ → Reading
 infWord s at = orWord s at (bytes "inf") 1 (Bad at)
 
-abbrev pub psiOr : Reading → Reading → Reading
-psiOr (Got k n) r = Got k n
-psiOr (Bad p) (Got v n) = Got (v + 2) n
-psiOr (Bad p) (Bad q) = Bad (max p q)
-
 unfoldable pub psiAt : List ℕ → ℕ → Reading
-psiAt s at = psiOr (infWord s at) (plainAt s at)
+psiAt s at = orRaised 2 (infWord s at) (plainAt s at)
 
 -- field rows, with a comma or a bar between two
 abbrev pub fieldsOn : List ℕ → (ℕ → Next) → Reading → Next
@@ -101,16 +102,11 @@ boxedAt s at = orWord s at (bytes "imm") 2 (orWord s at (bytes "box") 1 (orWord 
 unfoldable pub anyWord : List ℕ → ℕ → Reading
 anyWord s at = orWord s at (bytes "any") 0 (Bad at)
 
-abbrev pub anyOr : Reading → Reading → Reading
-anyOr (Got k n) r = Got k n
-anyOr (Bad p) (Got v n) = Got (v + 1) n
-anyOr (Bad p) (Bad q) = Bad (max p q)
-
 unfoldable pub offsetAt : List ℕ → ℕ → Reading
-offsetAt s at = anyOr (anyWord s at) (plainAt s at)
+offsetAt s at = orRaised 1 (anyWord s at) (plainAt s at)
 
 unfoldable pub tagAt : List ℕ → ℕ → Reading
-tagAt s at = anyOr (anyWord s at) (numberAt s at)
+tagAt s at = orRaised 1 (anyWord s at) (numberAt s at)
 
 -- B,I,T
 unfoldable pub entryShape : List ℕ → ℕ → Next

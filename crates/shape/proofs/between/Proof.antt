@@ -3,9 +3,11 @@ use borrow.Author.Tests.{eq-eqb, ne-eqb}
 use Rattle.shape.proofs.between.Statement.{statement}
 use Rattle.shape.proofs.between.Tie as tie
 
+returns : tie.Need-returns
+returns c = rw (eq-eqb (c .before .args .b) 44 (c .if1 .taken))
+
+returns-2 : tie.Need-returns-2
+returns-2 c = rw (ne-eqb (c .before .args .b) 44 (c .if1 .left))
+
 pub between-spec : {M : Type 1} → statement M
-between-spec =
-    tie.close
-    (tie.spec
-    (λ c. rw (eq-eqb (c .before .args .b) 44 (c .if1 .taken)))  -- returns
-    (λ c. rw (ne-eqb (c .before .args .b) 44 (c .if1 .left))))  -- returns-2
+between-spec = tie.close (tie.spec returns returns-2)

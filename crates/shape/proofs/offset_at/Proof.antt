@@ -1,10 +1,9 @@
 -- `shape::offset_at` meets its contract: the word or the number, which is small enough to be raised. Assumes nothing.
 use borrow.Author.Needs.{needs}
-use mathlib.Core.Path.{ap, sym}
+use mathlib.Core.Path.{ap}
 use native.Mathlib.Omega.{arith}
 use Rattle.rules.specs.Text.Shape.{anyWord, offsetAt}
-use Rattle.rules.specs.Text.Words.{plainAt, valueOf}
-use Rattle.shape.proofs.Ways.{any-raised}
+use Rattle.rules.specs.Text.Words.{valueOf}
 use Rattle.text.proofs.Laws.{plain-reads, value-most}
 use Rattle.shape.proofs.offset_at.Statement.{statement}
 use Rattle.shape.proofs.offset_at.Tie as tie
@@ -18,4 +17,4 @@ offset-at-spec =
     (λ c κs. search needs)  -- or-word-requires
     (λ c κs. search needs)  -- plain-at-requires
     (λ c κs. let a = c .before .before .before .before .args in (omega (arith, ap valueOf (c .plain-at .ensures), value-most (plain-reads (a .s .now) (a .at))), omega arith))  -- or-number-requires
-    (λ c. let a = c .before .before .before .before .before .args in rw (c .or-number .ensures, c .before .plain-at .ensures, c .before .before .or-word .ensures) (sym (any-raised (anyWord (a .s .now) (a .at)) (plainAt (a .s .now) (a .at))))))  -- returns
+    (λ c. rw (c .or-number .ensures, c .before .plain-at .ensures, c .before .before .or-word .ensures)))  -- returns

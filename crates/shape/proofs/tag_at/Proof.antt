@@ -1,10 +1,9 @@
 -- `shape::tag_at` meets its contract: the word or the number, which is small enough to be raised. Assumes nothing.
 use borrow.Author.Needs.{needs}
-use mathlib.Core.Path.{ap, sym}
+use mathlib.Core.Path.{ap}
 use native.Mathlib.Omega.{arith}
 use Rattle.rules.specs.Text.Shape.{anyWord, tagAt}
-use Rattle.rules.specs.Text.Words.{numberAt, valueOf}
-use Rattle.shape.proofs.Ways.{any-raised}
+use Rattle.rules.specs.Text.Words.{valueOf}
 use Rattle.text.proofs.Laws.{number-reads, value-most}
 use Rattle.shape.proofs.tag_at.Statement.{statement}
 use Rattle.shape.proofs.tag_at.Tie as tie
@@ -18,4 +17,4 @@ tag-at-spec =
     (λ c κs. search needs)  -- or-word-requires
     (λ c κs. search needs)  -- number-at-requires
     (λ c κs. let a = c .before .before .before .before .args in (omega (arith, ap valueOf (c .number-at .ensures), value-most (number-reads (a .s .now) (a .at))), omega arith))  -- or-number-requires
-    (λ c. let a = c .before .before .before .before .before .args in rw (c .or-number .ensures, c .before .number-at .ensures, c .before .before .or-word .ensures) (sym (any-raised (anyWord (a .s .now) (a .at)) (numberAt (a .s .now) (a .at))))))  -- returns
+    (λ c. rw (c .or-number .ensures, c .before .number-at .ensures, c .before .before .or-word .ensures)))  -- returns

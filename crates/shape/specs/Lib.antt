@@ -1,2 +1,0 @@
--- What the contracts of private functions cite. Assumes nothing.
-pub mod Raised
