@@ -11,12 +11,12 @@ use Rattle.rules.specs.declared.Next.{Next}
 use Rattle.rules.specs.declared.Next.the-variants as N
 use Rattle.rules.specs.When.{when}
 use Rattle.rules.specs.Answers.{answer, accepted}
-use Rattle.rules.specs.Text.{TextOut, stopped, Lined, lined, limited, shaped, keyed, lineAt, ended, andLine, linesFrom, readText}
+use Rattle.rules.specs.Text.{TextOut, stopped, Lined, lined, limited, shaped, keyed, lineAt, ended, andLine, linesFrom}
 use Rattle.rules.specs.Text.Words.{byteAt, valueOf, nextOf, plainAt}
 use Rattle.rules.specs.Text.Shape.{psiAt, boxedAt, offsetAt, tagAt, keyOf, inOrder, lineShape}
-use Rattle.rules.specs.Text.Layout.{Tables, withVars, withLabels, oneVar, sized, nothing, zeros}
+use Rattle.rules.specs.Text.Layout.{Tables, withVars, withLabels, oneVar, sized, nothing}
 use Rattle.rules.specs.Text.Fill.{Filled, filled, putVar, addVar, Fields, fields, putField, moreFields, fillFields, fillProducts, addRow, fillType, plainLine, putEntry, fillEntries, addLabel, fillLabel, oneMore, fillLine}
-use Rattle.reader.specs.Read.{settled, closed}
+use Rattle.reader.specs.Read.{settled, closed, readOver}
 use Rattle.reader.proofs.Once.{line-settled}
 
 -- ---- lines before the body
@@ -198,13 +198,14 @@ module _ (c : Count) (t : Tables) where
     pub refused : (a : ℕ) → (a ≡ 0 → ⊥) → closed (answer a line) t ≡ andLine rest line (lined a n c t)
     refused a e = rw (ne-eqb a 0)
 
-pub too-long : (s : List ℕ) → 32768 < length s → readText s ≡ stopped (answer 1 0)
-unfolding readText
-too-long s h = rw (lt-ltb 32768 (length s))
+module _ (s : List ℕ) (t : Tables) where
+  pub too-long : 32768 < length s → readOver s t ≡ stopped (answer 1 0)
+  unfolding readOver
+  too-long h = rw (lt-ltb 32768 (length s))
 
-pub not-long : (s : List ℕ) → length s ≤ 32768 → readText s ≡ linesFrom s 610 1 0 nothing zeros
-unfolding readText
-not-long s h = rw (le-ltb 32768 (length s))
+  pub not-long : length s ≤ 32768 → readOver s t ≡ linesFrom s 610 1 0 nothing t
+  unfolding readOver
+  not-long h = rw (le-ltb 32768 (length s))
 
 module _ (a : Answer) (t : Tables) where
   pub closed-in : a .number ≡ 0 → closed a t ≡ record { answer = a; tables = t }

@@ -1,9 +1,9 @@
 -- What the contracts of the reader say in one name each: where a line may stand, counts within the limits, and what the tables hold at the end. Assumes nothing.
 use Prim.Native.Nat.{ℕ, _+_, _≤_, _<_, max}
-use mathlib.Core.Path.{_≡_}
+use mathlib.Core.Path.{_≡_, refl}
 use mathlib.Core.List.{List}
 use mathlib.Core.Bool.{false}
-use lib.Dec.{eqb}
+use lib.Dec.{ltb, eqb}
 use lib.ListN.{length}
 use Rattle.rules.specs.declared.Answer.{Answer}
 use Rattle.rules.specs.declared.Count.{Count}
@@ -14,7 +14,8 @@ use Rattle.rules.specs.Text.Words.{byteAt}
 use Rattle.rules.specs.Text.Shape.{keyOf, lineShape}
 use Rattle.rules.specs.Text.Layout.{Tables, nothing, zeros}
 use Rattle.rules.specs.Text.Fill.{fillLine}
-use Rattle.rules.specs.Text.{Lined, lined, TextOut, stopped}
+use Rattle.rules.specs.Answers.{answer}
+use Rattle.rules.specs.Text.{Lined, lined, TextOut, stopped, linesFrom, mostLines, readText}
 use Rattle.once.specs.Once.{hasExpr}
 use Rattle.once.proofs.Right.{Refuses}
 
@@ -74,6 +75,17 @@ Late s k at c t = (n : ℕ) → lineShape s (c .vars) (keyOf k) at ≡ N.At n �
 -- the tables count for an answer 0 only
 abbrev pub closed : Answer → Tables → TextOut
 closed a t = when (eqb (a .number) 0) (λ _. record { answer = a; tables = t }) (λ _. stopped a)
+
+-- a text read over what the tables hold, as the rules read it where they hold nothing
+unfoldable pub readOver : List ℕ → Tables → TextOut
+readOver s t =
+    when (ltb (limits .bytes) (length s))
+    (λ _. stopped (answer 1 0))
+    (λ _. linesFrom s (mostLines + 1) 1 0 nothing t)
+
+pub over-zeros : (s : List ℕ) → readOver s zeros ≡ readText s
+unfolding readOver readText
+over-zeros s = refl
 
 -- an answer and six tables are what a text says
 pub record Holds (o : TextOut) (a : Answer) (Z N R D L B : List ℕ) : Type 0 where

@@ -46,7 +46,7 @@ ghost use Rattle.rules.specs.Text.Layout as layout;
 ghost use Rattle.rules.specs.Text.Fill as fills;
 ghost use Rattle.program.specs.Lines.{tablesOf};
 ghost use Rattle.once.specs.Once.{hasExpr};
-ghost use Rattle.reader.specs.Read.{Placed, Near, Worded, Within, Ready, Room, Plain, Late, settled, closed, Holds};
+ghost use Rattle.reader.specs.Read.{Placed, Near, Worded, Within, Ready, Room, Plain, Late, settled, closed, readOver, Holds};
 
 // As many fields as a row may have, and the one after these, which is refused.
 const FIELD_TURNS: usize = Limits::PRODUCTS * Limits::WIDTH + 1;
@@ -734,7 +734,7 @@ fn nothing() -> Count
     }
 }
 
-// Answers 1 to 3, or 0 with the program in the tables. Whatever they held before, they are all 0 on a refusal.
+// Answers 1 to 3, or 0 with the program written over what the tables held. On a refusal they are all 0.
 pub fn read(
     s: &[u8],
     size: &mut [u32; 6],
@@ -744,10 +744,10 @@ pub fn read(
     labels: &mut [u64; 6208],
     body: &mut [u32; 2560],
 ) -> Answer
-    ensures { λ r. ⌜ Holds (texts.readText (now (s .entry))) r (now (size .exit)) (now (nodes .exit)) (now (rows .exit)) (now (vars .exit)) (now (labels .exit)) (now (body .exit)) ⌝ }
+    ensures { λ r. ⌜ Holds (readOver (now (s .entry)) (tablesOf (now (size .entry)) (now (nodes .entry)) (now (rows .entry)) (now (vars .entry)) (now (labels .entry)) (now (body .entry)))) r (now (size .exit)) (now (nodes .exit)) (now (rows .exit)) (now (vars .exit)) (now (labels .exit)) (now (body .exit)) ⌝ }
 {
-    clear(size, nodes, rows, vars, labels, body);
     if Limits::BYTES < s.len() {
+        clear(size, nodes, rows, vars, labels, body);
         return Answer { number: 1, line: 0 };
     }
     let a = lines(s, size, nodes, rows, vars, labels, body);
