@@ -1,6 +1,6 @@
 -- A text that was read, and then held against its names: the answer is that of the earlier stage that refuses, and the tables are zero on a refusal. Assumes nothing.
 use borrow.Author.Tests.{ne-eqb, eq-eqb}
-use Rattle.rules.specs.Prelude.{ℕ, List, _≡_}
+use Rattle.rules.specs.Prelude.{ℕ, List, _≡_, ap}
 use Rattle.rules.specs.declared.Answer.{Answer}
 use Rattle.rules.specs.When.{when}
 use Rattle.rules.specs.Answers.{passes, andThen}
@@ -8,6 +8,7 @@ use Rattle.rules.specs.Text.Layout.{Tables, zeros}
 use Rattle.rules.specs.Text.{TextOut, readText}
 use Rattle.rules.specs.View.{program}
 use Rattle.rules.specs.Names.{names}
+use Rattle.reader.specs.Read.{readOver, over-zeros as text-over-zeros}
 
 abbrev pub kept : Answer → Tables → TextOut
 kept a t = record { answer = a; tables = when (passes a) (λ _. t) (λ _. zeros) }
@@ -18,6 +19,14 @@ namedOf o = kept (andThen (o .answer) (λ _. names (program (o .tables)))) (o .t
 -- answers 1 to 5
 unfoldable pub readNamed : List ℕ → TextOut
 readNamed s = namedOf (readText s)
+
+-- the same, where the text is read over what the tables hold
+unfoldable pub namedOver : List ℕ → Tables → TextOut
+namedOver s t = namedOf (readOver s t)
+
+pub over-zeros : (s : List ℕ) → namedOver s zeros ≡ readNamed s
+unfolding namedOver readNamed
+over-zeros s = ap namedOf (text-over-zeros s)
 
 -- ---- the three ways
 
