@@ -18,7 +18,7 @@ use Rattle.rules.specs.Laws.Accepts.{refused-tables, accepted-tables, verdict-p
 use Rattle.program.specs.Lines.{tablesOf}
 use Rattle.reader.specs.Read.{Holds}
 use Rattle.reader.proofs.Laws.{tables-are}
-use Rattle.glue.specs.Named.{namedOf, readNamed}
+use Rattle.glue.specs.Named.{namedOf, namedOver, over-zeros, readNamed}
 use Rattle.body.specs.Lines.{typesIn}
 use Rattle.body.specs.There.{types-is}
 use Rattle.checker.specs.Says.{Says}
@@ -88,33 +88,43 @@ module _ (Z N R D L B : List ℕ) where
 
 -- ---- the ways through the stages
 
-module _ (s : List ℕ) (a : Answer) (Z N R D L B : List ℕ) (h : Holds (readNamed s) a Z N R D L B) where
+module _ (s : List ℕ) (t : Tables) (e : t ≡ zeros) (a : Answer) (Z N R D L B : List ℕ) (h : Holds (namedOver s t) a Z N R D L B) where
+  -- read over tables that hold nothing
+  fresh : namedOver s t ≡ readNamed s
+  fresh = ap (namedOver s) e ∙ over-zeros s
+
+  answered : a ≡ readNamed s .answer
+  answered = h .answer ∙ ap (λ (o : TextOut). o .answer) fresh
+
+  left : tablesOf Z N R D L B ≡ readNamed s .tables
+  left = tables-are h ∙ ap (λ (o : TextOut). o .tables) fresh
+
   pub by-names : (a .number ≡ 0 → ⊥) → checked s .verdict ≡ a
-  by-names n = grouped s ∙ ap (λ (x : Answer). andThen x (later (readText s))) (sym (h .answer)) ∙ stops a (later (readText s)) n
+  by-names n = grouped s ∙ ap (λ (x : Answer). andThen x (later (readText s))) (sym answered) ∙ stops a (later (readText s)) n
 
   pub as-cleared : (a .number ≡ 0 → ⊥) → tablesOf Z N R D L B ≡ zeros
-  as-cleared n = tables-are h ∙ tables-refused s (subst (λ (x : Answer). x .number ≡ 0 → ⊥) (h .answer) n)
+  as-cleared n = left ∙ tables-refused s (subst (λ (x : Answer). x .number ≡ 0 → ⊥) answered n)
 
   module _ (z : a .number ≡ 0) where
     abbrev P : Prog
     P = program (readText s .tables)
 
     named : readNamed s .answer .number ≡ 0
-    named = subst (λ (x : Answer). x .number ≡ 0) (h .answer) z
+    named = subst (λ (x : Answer). x .number ≡ 0) answered z
 
     pub as-read : tablesOf Z N R D L B ≡ readText s .tables
-    as-read = tables-are h ∙ tables-pass s named
+    as-read = left ∙ tables-pass s named
 
     on : checked s .verdict ≡ andThen (types P) (λ _. ends P)
     unfolding later
-    on = grouped s ∙ ap (λ (x : Answer). andThen x (later (readText s))) (sym (h .answer)) ∙ goes a (later (readText s)) z
+    on = grouped s ∙ ap (λ (x : Answer). andThen x (later (readText s))) (sym answered) ∙ goes a (later (readText s)) z
 
     typed-as : (b : Answer) → b ≡ typesIn (tablesOf Z N R D L B) → b ≡ types P
-    typed-as b e = e ∙ ap typesIn as-read ∙ types-is (readText s .tables) (names-pass s named)
+    typed-as b q = q ∙ ap typesIn as-read ∙ types-is (readText s .tables) (names-pass s named)
 
     pub by-types : (b : Answer) → b ≡ typesIn (tablesOf Z N R D L B) → (b .number ≡ 0 → ⊥) → checked s .verdict ≡ b
-    by-types b e n = on ∙ ap (λ (x : Answer). andThen x (λ _. ends P)) (sym (typed-as b e)) ∙ stops b (λ _. ends P) n
+    by-types b q n = on ∙ ap (λ (x : Answer). andThen x (λ _. ends P)) (sym (typed-as b q)) ∙ stops b (λ _. ends P) n
 
     pub by-ends : (b c : Answer) → b ≡ typesIn (tablesOf Z N R D L B) → b .number ≡ 0 → c ≡ ends (program (tablesOf Z N R D L B)) → checked s .verdict ≡ c
-    by-ends b c e y f =
-        on ∙ ap (λ (x : Answer). andThen x (λ _. ends P)) (sym (typed-as b e)) ∙ goes b (λ _. ends P) y ∙ sym (f ∙ ap (λ (t : Tables). ends (program t)) as-read)
+    by-ends b c q y f =
+        on ∙ ap (λ (x : Answer). andThen x (λ _. ends P)) (sym (typed-as b q)) ∙ goes b (λ _. ends P) y ∙ sym (f ∙ ap (λ (u : Tables). ends (program u)) as-read)

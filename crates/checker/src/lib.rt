@@ -2,11 +2,13 @@
 ghost use mathlib.Core.Path.{_≡_};
 ghost use Rattle.rules.specs.Answers.{caseOf};
 ghost use Rattle.rules.specs.Check.{checked, verdict};
+ghost use Rattle.rules.specs.Text.Layout.{zeros};
+ghost use Rattle.program.specs.Lines.{tablesOf};
 ghost use Rattle.checker.specs.Says.{Says};
 use rules::Verdict;
 
-// The answer to a glue text, with the program in the tables if it is accepted. Whatever they held before, they are all 0 on a refusal.
-pub fn check(
+// The answer to a glue text, with the program in the tables if it is accepted, which are all 0 before, and again on a refusal.
+fn judged(
     s: &[u8],
     size: &mut [u32; 6],
     nodes: &mut [u64; 4096],
@@ -15,6 +17,7 @@ pub fn check(
     labels: &mut [u64; 6208],
     lines: &mut [u32; 2560],
 ) -> Verdict
+    requires { ⌜ tablesOf (now size) (now nodes) (now rows) (now vars) (now labels) (now lines) ≡ zeros ⌝ }
     ensures { λ r. ⌜ Says (checked (now (s .entry))) r (now (size .exit)) (now (nodes .exit)) (now (rows .exit)) (now (vars .exit)) (now (labels .exit)) (now (lines .exit)) ⌝ }
 {
     let a = glue::read(s, size, nodes, rows, vars, labels, lines);
@@ -35,7 +38,23 @@ pub fn check(
     Verdict::Accepted
 }
 
-// The answer alone, with tables of its own.
+// The same, whatever the tables held before.
+pub fn check(
+    s: &[u8],
+    size: &mut [u32; 6],
+    nodes: &mut [u64; 4096],
+    rows: &mut [u32; 17536],
+    vars: &mut [u32; 96],
+    labels: &mut [u64; 6208],
+    lines: &mut [u32; 2560],
+) -> Verdict
+    ensures { λ r. ⌜ Says (checked (now (s .entry))) r (now (size .exit)) (now (nodes .exit)) (now (rows .exit)) (now (vars .exit)) (now (labels .exit)) (now (lines .exit)) ⌝ }
+{
+    program::clear(size, nodes, rows, vars, labels, lines);
+    judged(s, size, nodes, rows, vars, labels, lines)
+}
+
+// The answer alone, with tables of its own, which are made of zeros and not cleared once more.
 pub fn answer(s: &[u8]) -> Verdict
     ensures { λ r. ⌜ r ≡ caseOf (verdict (now (s .entry))) ⌝ }
 {
@@ -45,7 +64,7 @@ pub fn answer(s: &[u8]) -> Verdict
     let mut vars = [0u32; 96];
     let mut labels = [0u64; 6208];
     let mut lines = [0u32; 2560];
-    check(
+    judged(
         s,
         &mut size,
         &mut nodes,

@@ -1,15 +1,16 @@
--- `checker::answer` meets its contract: it is what `check` answers. Assumes nothing.
+-- `checker::answer` meets its contract: it is what `judged` answers over tables of zeros. Assumes nothing.
 use Rattle.rules.specs.Check.{verdict}
-use borrow.Author.Needs.{needs}
+use Rattle.program.proofs.Laws.{zeros-are}
+use mathlib.Core.Path.{sym}
 use Rattle.checker.proofs.answer.Statement.{statement}
 use Rattle.checker.proofs.answer.Tie as tie
 
-check-requires : tie.Need-check-requires
-check-requires c κs = search needs
+judged-requires : tie.Need-judged-requires
+judged-requires c κs = sym zeros-are
 
 returns : tie.Need-returns
 unfolding verdict
-returns c = c .check .ensures .answer
+returns c = c .judged .ensures .answer
 
 pub answer-spec : {M : Type 1} → statement M
-answer-spec = tie.close (tie.spec check-requires returns)
+answer-spec = tie.close (tie.spec judged-requires returns)
