@@ -1,6 +1,6 @@
 -- The proof of the cycle of calls {expression, operands}. The depth falls from an expression to its operands, and the number of operands left from one to the next.
 -- Assumes nothing.
-use mathlib.Core.Path.{sym, ap, _∙_}
+use mathlib.Core.Path.{sym, ap, _∙_, _≡_}
 use Prim.Native.Nat.{ℕ, _+_, _-_, _*_, _<_}
 use native.Mathlib.Omega.{arith}
 use native.Mathlib.Nat.{pos-of-ne-zero}
@@ -8,6 +8,7 @@ use borrow.Author.Needs.{needs}
 use borrow.Fn.Kinds.{In}
 use borrow.Fn.PlainCycle.{Measures, is, falls, and}
 use Rattle.rules.specs.declared.Filling.{Filling}
+use Rattle.rules.specs.Text.Words.{byteAt}
 use Rattle.rules.specs.Text.Fill as fill
 use Rattle.text.proofs.Laws.{inside}
 use Rattle.once.specs.Once.{operandsOnce, exprOnce}
@@ -43,6 +44,12 @@ operands-at t = and 2 operands-kinds.ps (is 2 operands-kinds.ps μ-operands t) o
 abbrev operands-below : ℕ → In 2 operands-kinds.ps
 operands-below t = and 2 operands-kinds.ps (falls 2 operands-kinds.ps _<_ μ-operands t) operands.Pre
 
+expression-returns-3 : (t : ℕ) → expression-lts.Need-returns-3 (head-at-reads.Asked, head-at-reads.Learnt, put-node-reads.Asked, put-node-reads.Learnt, arity-reads.Asked, arity-reads.Learnt, operands-below t, operands.Post) (expression-at t) expression.Post
+expression-returns-3 t c = let a = c .before .before .before .before .before .before .before .before .before .before .before .args in let h = c .before .before .before .before .before .before .h .given in sym (no-operand (a .s .now) (exprOnce (a .s .now) (a .depth - 1)) (h .0 .1 .1 .0) (a .free + 1) (c .before .before .put-node .last .0) (c .before .arity .result) (c .if3 .taken)) ∙ (λ i. operandsOnce (a .s .now) (exprOnce (a .s .now) (a .depth - 1)) (c .before .arity .ensures i) (h .0 .1 .1 .0) (a .free + 1) (c .before .before .put-node .ensures i)) ∙ sym (by-head (a .s .now) (a .at) (a .free) (a .nodes .now) (a .depth) (c .before .before .before .before .before .before .before .before .before .if1 .left) (sym (h .1) ∙ c .before .before .before .before .before .before .before .before .head-at .ensures) ∙ room (a .s .now) (exprOnce (a .s .now) (a .depth - 1)) (h .0 .1 .1 .0) (a .free) (a .nodes .now) (h .0 .0) (h .0 .1 .0) (omega arith))
+
+operands-returns-3 : (t : ℕ) → operands-lts.Need-returns-3 (byte-at-reads.Asked, byte-at-reads.Learnt, expression-below t, expression.Post, operands-below t, operands.Post) (operands-at t) operands.Post
+operands-returns-3 t c = let a = c .before .before .before .before .before .before .before .before .before .before .args in let e = c .before .before .before .before .expression in let g = c .before .before .r .given .0 in let space : byteAt (a .s .now) (a .at) ≡ 32 = omega (arith, c .before .before .before .before .before .before .before .byte-at .ensures, c .before .before .before .before .before .before .if2 .left) in sym (an-operand (a .s .now) (exprOnce (a .s .now) (a .depth)) (a .at) (a .free) (a .nodes .now) (a .n) (c .before .before .before .before .before .before .before .before .if1 .left) space (e .ensures) ∙ ap (λ (x : Filling). fill.onward (fill.out x (e .last .1 .1 .1 .1 .0)) (operandsOnce (a .s .now) (exprOnce (a .s .now) (a .depth)) (a .n - 1))) (c .before .before .r .given .1) ∙ no-operand (a .s .now) (exprOnce (a .s .now) (a .depth)) (g .0) (g .1 .0) (e .last .1 .1 .1 .1 .0) (a .n - 1) (omega (arith, c .if3 .taken)))
+
 pub +expression+operands-spec : {M : Type 1} → statement M
 +expression+operands-spec =
     close μ-expression μ-operands
@@ -57,7 +64,7 @@ pub +expression+operands-spec : {M : Type 1} → statement M
     (λ c κs. search needs)  -- put-node-requires
     (λ c. search needs)  -- add-f
     (λ c κs. search needs)  -- arity-requires
-    (λ c. let a = c .before .before .before .before .before .before .before .before .before .before .before .args in let h = c .before .before .before .before .before .before .h .given in sym (no-operand (a .s .now) (exprOnce (a .s .now) (a .depth - 1)) (h .0 .1 .1 .0) (a .free + 1) (c .before .before .put-node .last .0) (c .before .arity .result) (c .if3 .taken)) ∙ (λ i. operandsOnce (a .s .now) (exprOnce (a .s .now) (a .depth - 1)) (c .before .arity .ensures i) (h .0 .1 .1 .0) (a .free + 1) (c .before .before .put-node .ensures i)) ∙ sym (by-head (a .s .now) (a .at) (a .free) (a .nodes .now) (a .depth) (c .before .before .before .before .before .before .before .before .before .if1 .left) (sym (h .1) ∙ c .before .before .before .before .before .before .before .before .head-at .ensures) ∙ room (a .s .now) (exprOnce (a .s .now) (a .depth - 1)) (h .0 .1 .1 .0) (a .free) (a .nodes .now) (h .0 .0) (h .0 .1 .0) (omega arith)))  -- returns-3
+    (expression-returns-3 t)
     (λ c. pos-of-ne-zero (c .before .before .before .before .before .before .before .before .before .if1 .left))  -- sub-operands
     (λ c κs. let a = c .before .before .before .before .before .before .before .before .before .before .before .before .args in (deeper (a .depth) (c .before .before .arity .result) t (c .before .before .before .before .before .before .before .before .before .before .if1 .left) (search needs) (c .before .before .before .before .before .before .before .before .before .before .before .before .pre .0), tt))  -- operands-requires
     (λ c. let a = c .before .before .before .before .before .args in sym (by-head (a .s .now) (a .at) (a .free) (a .nodes .now) (a .depth) (c .before .before .before .if1 .left) (sym (c .enum-told .given .1) ∙ c .before .before .head-at .ensures)))  -- returns-4
@@ -67,11 +74,11 @@ pub +expression+operands-spec : {M : Type 1} → statement M
     operands.Post
     (λ c. let a = c .before .before .args in sym (no-operand (a .s .now) (exprOnce (a .s .now) (a .depth)) (a .at) (a .free) (a .nodes .now) (a .n) (c .if1 .taken)))  -- returns
     (λ c κs. search needs)  -- byte-at-requires
-    (λ c. let a = c .before .before .before .before .args in sym (no-space (a .s .now) (exprOnce (a .s .now) (a .depth)) (a .at) (a .free) (a .nodes .now) (a .n) (c .before .before .if1 .left) (λ e. c .if2 .taken (c .before .byte-at .ensures ∙ e))))  -- returns-2
+    (λ c. let a = c .before .before .before .before .args in sym (no-space (a .s .now) (exprOnce (a .s .now) (a .depth)) (a .at) (a .free) (a .nodes .now) (a .n) (c .before .before .if1 .left) (omega (arith, c .before .byte-at .ensures, c .if2 .taken))))  -- returns-2
     (λ c. let a = c .before .before .before .before .args in omega (arith, inside (a .s .now) (a .at) (omega (arith, c .before .byte-at .ensures, c .if2 .left))))  -- add-expression
     (λ c κs. (omega (arith, c .before .before .before .before .before .pre .0), tt))  -- expression-requires
     (λ c. search needs)  -- enum-known-r
-    (λ c. let a = c .before .before .before .before .before .before .before .before .before .before .args in let e = c .before .before .before .before .expression in let g = c .before .before .r .given .0 in let space = sym (c .before .before .before .before .before .before .before .byte-at .ensures) ∙ c .before .before .before .before .before .before .if2 .left in sym (an-operand (a .s .now) (exprOnce (a .s .now) (a .depth)) (a .at) (a .free) (a .nodes .now) (a .n) (c .before .before .before .before .before .before .before .before .if1 .left) space (e .ensures) ∙ ap (λ (x : Filling). fill.onward (fill.out x (e .last .1 .1 .1 .1 .0)) (operandsOnce (a .s .now) (exprOnce (a .s .now) (a .depth)) (a .n - 1))) (c .before .before .r .given .1) ∙ no-operand (a .s .now) (exprOnce (a .s .now) (a .depth)) (g .0) (g .1 .0) (e .last .1 .1 .1 .1 .0) (a .n - 1) (omega (arith, c .if3 .taken))))  -- returns-3
+    (operands-returns-3 t)
     (λ c. pos-of-ne-zero (c .before .before .before .before .before .before .before .before .if1 .left))  -- sub-operands
     (λ c κs. (omega (arith, pos-of-ne-zero (c .before .before .before .before .before .before .before .before .before .if1 .left), c .before .before .before .before .before .before .before .before .before .before .before .pre .0), tt))  -- operands-requires
     (λ c. search needs)  -- enum-told
