@@ -12,6 +12,14 @@ use Rattle.number.proofs.arith.Tie as tie
 both : (c : tie.After-struct-told2) → Both (c .before .before .before .before .args .a .n) (c .before .before .before .before .args .b .n)
 both c = (search needs, search needs)
 
+returns-4 : tie.Need-returns-4
+unfolding arithOf
+returns-4 c = rw (c .before .before .enum-told4 .given .1) (c .one-if .ensures ∙ ap oneIf (c .before .same .ensures))
+
+returns-5 : tie.Need-returns-5
+unfolding arithOf
+returns-5 c = rw (c .before .enum-told5 .given .1) (c .one-if2 .ensures ∙ ap oneIf (two-wide ltZ (both (c .before .before .before))))
+
 pub arith-spec : {M : Type 1} → statement M
 unfolding arithOf
 arith-spec =
@@ -36,5 +44,5 @@ arith-spec =
     (λ c. rw (c .before .enum-told .given .1) (c .wrap .ensures ∙ wide-wraps _+ℤ_ sum-fits (both (c .before .before .before))))  -- returns
     (λ c. rw (c .before .enum-told2 .given .1) (c .wrap2 .ensures ∙ wide-wraps _-ℤ_ sub-fits (both (c .before .before .before))))  -- returns-2
     (λ c. rw (c .before .enum-told3 .given .1) (c .wrap3 .ensures ∙ wide-wraps _*ℤ_ mul-fits (both (c .before .before .before))))  -- returns-3
-    (λ c. rw (c .before .before .enum-told4 .given .1) (c .one-if .ensures ∙ ap oneIf (c .before .same .ensures)))  -- returns-4
-    (λ c. rw (c .before .enum-told5 .given .1) (c .one-if2 .ensures ∙ ap oneIf (two-wide ltZ (both (c .before .before .before))))))  -- returns-5
+    returns-4
+    returns-5)

@@ -10,7 +10,7 @@ pub number-spec : {M : Type 1} → statement M
 number-spec =
     tie.close
     (tie.spec
-    (λ c. search needs)  -- cast-t5
+    (λ c. omega arith)  -- cast-t5
     (λ c. search needs)  -- sub-m
     (λ c. search needs)  -- cast-t6
     (λ c. let w = c .before .args .w in by-low w w (omega arith))  -- returns

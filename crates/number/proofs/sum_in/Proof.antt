@@ -6,6 +6,12 @@ use borrow.Author.Needs.{needs}
 use Rattle.number.proofs.sum_in.Statement.{statement}
 use Rattle.number.proofs.sum_in.Tie as tie
 
+returns : tie.Need-returns
+returns c = let o = c .before .before .before .before in rw (plus-is (o .before .args .o .n) (sym (o .sign-of .ensures) ∙ c .before .before .k .given .1)) (c .place-in .ensures)
+
+returns-3 : tie.Need-returns-3
+returns-3 c = let s = c .before .before .before .before .before in let a = s .before .args in rw (minus-is (a .o .n) (sym (s .sign-of .ensures) ∙ c .before .before .before .enum-told .given .1), minus-is (a .m .n) (sym (c .before .before .sign-of2 .ensures) ∙ c .enum-told2 .given .1)) (none-below (a .n) refl)
+
 pub sum-in-spec : {M : Type 1} → statement M
 sum-in-spec =
     tie.close
@@ -20,6 +26,6 @@ sum-in-spec =
     (λ c. search needs)  -- cast-place-in-2
     (λ c κs. search needs)  -- place-in-requires-2
     (λ c. search needs)  -- enum-told-2
-    (λ c. let o = c .before .before .before .before in rw (plus-is (o .before .args .o .n) (sym (o .sign-of .ensures) ∙ c .before .before .k .given .1)) (c .place-in .ensures))  -- returns
+    returns
     (λ c. let s = c .before .before .before .before in let a = s .before .before .before .before .args in rw (+ℤ-comm (a .o .n) (a .m .n), plus-is (a .m .n) (sym (s .sign-of2 .ensures) ∙ c .before .before .k2 .given .1)) (c .place-in2 .ensures))  -- returns-2
-    (λ c. let s = c .before .before .before .before .before in let a = s .before .args in rw (minus-is (a .o .n) (sym (s .sign-of .ensures) ∙ c .before .before .before .enum-told .given .1), minus-is (a .m .n) (sym (c .before .before .sign-of2 .ensures) ∙ c .enum-told2 .given .1)) (none-below (a .n) refl)))  -- returns-3
+    returns-3)

@@ -7,6 +7,14 @@ use borrow.Author.Needs.{needs}
 use Rattle.number.proofs.word.Statement.{statement}
 use Rattle.number.proofs.word.Tie as tie
 
+returns : tie.Need-returns
+unfolding wordOf
+returns c = rw (plus-is (c .before .before .before .before .args .a .n) (sym (c .before .before .before .sign-of .ensures) ∙ c .before .k .given .1)) refl
+
+returns-2 : tie.Need-returns-2
+unfolding wordOf
+returns-2 c = rw (minus-is (c .before .before .before .before .args .a .n) (sym (c .before .before .before .sign-of .ensures) ∙ c .before .k2 .given .1)) (omega arith)
+
 pub word-spec : {M : Type 1} → statement M
 unfolding wordOf
 word-spec =
@@ -16,5 +24,5 @@ word-spec =
     (λ c. search needs)  -- enum-known-k
     (λ c. search needs)  -- enum-known-k-2
     (λ c. search needs)  -- sub-result
-    (λ c. rw (plus-is (c .before .before .before .before .args .a .n) (sym (c .before .before .before .sign-of .ensures) ∙ c .before .k .given .1)) refl)  -- returns
-    (λ c. rw (minus-is (c .before .before .before .before .args .a .n) (sym (c .before .before .before .sign-of .ensures) ∙ c .before .k2 .given .1)) (omega arith)))  -- returns-2
+    returns
+    returns-2)
