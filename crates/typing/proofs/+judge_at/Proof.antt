@@ -31,12 +31,20 @@ judge-at-at t = and 5 judge-at-kinds.ps (is 5 judge-at-kinds.ps μ-judge-at t) j
 abbrev judge-at-below : ℕ → In 5 judge-at-kinds.ps
 judge-at-below t = and 5 judge-at-kinds.ps (falls 5 judge-at-kinds.ps _<_ μ-judge-at t) judge-at.Pre
 
+-- what is known of the functions that it calls
+abbrev judge-at-claims : ℕ → judge-at-lts.Claims
+judge-at-claims t = (gives-reads.Asked, gives-reads.Learnt, operation-reads.Asked, operation-reads.Learnt, argument-reads.Asked, argument-reads.Learnt, operands-reads.Asked, operands-reads.Learnt, leaf-reads.Asked, leaf-reads.Learnt, judge-at-below t, judge-at.Post, one-operand-reads.Asked, one-operand-reads.Learnt, two-operands-reads.Asked, two-operands-reads.Learnt)
+
+returns-5 : (t : ℕ) → judge-at-lts.Need-returns-5 (judge-at-claims t) (judge-at-at t) judge-at.Post
+unfolding foundAt type
+returns-5 t c = c .gives5 .ensures ∙ ends-two (type _ _ _) found _ _ _ (form _ _ _) (folds _ _ _) _ _ _ (c .before .before .before .before .before .before .before .before .before .before .if1 .left) (c .before .before .before .before .before .before .before .before .before .if2 .left) (c .before .before .before .before .before .before .before .before .operation .ensures) (c .before .before .before .before .before .before .before .argument .ensures) (c .before .before .before .before .before .before .operands .ensures) _ _ _ _ _ (c .before .before .before .before .before .if3 .left) (c .before .before .before .if4 .left) (tree-of _ _ _ _ _ _ _ (c .before .before .before .before .judge-at .ensures)) (after-of _ _ _ _ _ _ _ (c .before .before .before .before .judge-at .ensures)) (tree-of _ _ _ _ _ _ _ (c .before .before .judge-at2 .ensures)) (after-of _ _ _ _ _ _ _ (c .before .before .judge-at2 .ensures)) (c .before .two-operands .ensures _ _ _)
+
 pub +judge-at-spec : {M : Type 1} → statement M
 unfolding foundAt type
 +judge-at-spec =
     close μ-judge-at λ t.
     judge-at-lts.spec
-    (gives-reads.Asked, gives-reads.Learnt, operation-reads.Asked, operation-reads.Learnt, argument-reads.Asked, argument-reads.Learnt, operands-reads.Asked, operands-reads.Learnt, leaf-reads.Asked, leaf-reads.Learnt, judge-at-below t, judge-at.Post, one-operand-reads.Asked, one-operand-reads.Learnt, two-operands-reads.Asked, two-operands-reads.Learnt)
+    (judge-at-claims t)
     (judge-at-at t)
     judge-at.Post
     (λ c κs. search needs)  -- gives-requires
@@ -59,4 +67,4 @@ unfolding foundAt type
     (λ c κs. search needs)  -- judge-at-requires-2
     (λ c κs. ((λ p. c .before .before .before .if3 .left (c .before .before .before .before .operands .ensures ∙ p)), (λ p. c .before .if4 .left (c .before .before .before .before .operands .ensures ∙ p))))  -- two-operands-requires
     (λ c κs. search needs)  -- gives-requires-5
-    (λ c. c .gives5 .ensures ∙ ends-two (type _ _ _) found _ _ _ (form _ _ _) (folds _ _ _) _ _ _ (c .before .before .before .before .before .before .before .before .before .before .if1 .left) (c .before .before .before .before .before .before .before .before .before .if2 .left) (c .before .before .before .before .before .before .before .before .operation .ensures) (c .before .before .before .before .before .before .before .argument .ensures) (c .before .before .before .before .before .before .operands .ensures) _ _ _ _ _ (c .before .before .before .before .before .if3 .left) (c .before .before .before .if4 .left) (tree-of _ _ _ _ _ _ _ (c .before .before .before .before .judge-at .ensures)) (after-of _ _ _ _ _ _ _ (c .before .before .before .before .judge-at .ensures)) (tree-of _ _ _ _ _ _ _ (c .before .before .judge-at2 .ensures)) (after-of _ _ _ _ _ _ _ (c .before .before .judge-at2 .ensures)) (c .before .two-operands .ensures _ _ _))  -- returns-5
+    (returns-5 t)
