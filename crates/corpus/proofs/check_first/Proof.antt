@@ -4,10 +4,6 @@ use borrow.Table.Elements.{length-take-le}
 use borrow.Author.Needs.{needs}
 use Rattle.corpus.proofs.check_first.Statement.{statement}
 use Rattle.corpus.proofs.check_first.Tie as tie
-use Rattle.corpus.proofs.check_first.Reads as reads
-use Rattle.corpus.proofs.check_first.Lts as lts
-use Rattle.io.proofs.write_all.Reads as write-all-reads
-use Rattle.told.proofs.check_prints.Reads as check-prints-reads
 
 -- src/main.rt:88:36
 slice-aggregate-check-prints : tie.Need-slice-aggregate-check-prints

@@ -3,10 +3,6 @@ use Prim.Native.Nat.{_≤_, _-_}
 use borrow.Author.Needs.{needs}
 use Rattle.corpus.proofs.main.Statement.{statement}
 use Rattle.corpus.proofs.main.Tie as tie
-use Rattle.corpus.proofs.main.Reads as reads
-use Rattle.corpus.proofs.main.Lts as lts
-use Rattle.corpus.proofs.next_byte.Reads as next-byte-reads
-use Rattle.corpus.proofs.next_text.Reads as next-text-reads
 
 abbrev Inv-loop : tie.InvT-loop
 Inv-loop texts₀ texts = texts ≤ 1000000

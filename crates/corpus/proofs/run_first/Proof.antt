@@ -4,10 +4,6 @@ use borrow.Table.Elements.{length-take-le}
 use borrow.Author.Needs.{needs}
 use Rattle.corpus.proofs.run_first.Statement.{statement}
 use Rattle.corpus.proofs.run_first.Tie as tie
-use Rattle.corpus.proofs.run_first.Reads as reads
-use Rattle.corpus.proofs.run_first.Lts as lts
-use Rattle.io.proofs.write_all.Reads as write-all-reads
-use Rattle.told.proofs.run_prints.Reads as run-prints-reads
 
 -- src/main.rt:105:34
 slice-aggregate-run-prints : tie.Need-slice-aggregate-run-prints

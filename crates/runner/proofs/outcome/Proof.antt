@@ -4,20 +4,13 @@ use Rattle.runner.specs.Ran.{ended}
 use borrow.Author.Needs.{needs}
 use Rattle.runner.proofs.outcome.Statement.{statement}
 use Rattle.runner.proofs.outcome.Tie as tie
-use Rattle.runner.proofs.outcome.Reads as reads
-use Rattle.runner.proofs.outcome.Lts as lts
-use Rattle.entry.proofs.datum_of.Reads as datum-of-reads
-use Rattle.runner.proofs.state_of.Reads as state-of-reads
 
--- src/lib.rt:49:9
 datum-of-requires : tie.Need-datum-of-requires
 datum-of-requires c κs = search needs
 
--- src/lib.rt:50:9
 state-of-requires : tie.Need-state-of-requires
 state-of-requires c κs = search needs
 
--- src/lib.rt:46:1
 returns : tie.Need-returns
 returns c = rw (c .state-of .ensures) (ap (ended (c .before .before .args .steps)) (c .before .datum-of .ensures))
 

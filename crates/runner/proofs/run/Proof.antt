@@ -9,20 +9,13 @@ use Rattle.runner.proofs.Laws.{glue-within}
 use borrow.Author.Needs.{needs}
 use Rattle.runner.proofs.run.Statement.{statement}
 use Rattle.runner.proofs.run.Tie as tie
-use Rattle.runner.proofs.run.Reads as reads
-use Rattle.runner.proofs.run.Lts as lts
-use Rattle.joined.proofs.glue_bytes.Reads as glue-bytes-reads
-use Rattle.runner.proofs.run_parts.Reads as run-parts-reads
 
--- src/lib.rt:134:9
 glue-bytes-requires : tie.Need-glue-bytes-requires
 glue-bytes-requires c κs = search needs
 
--- src/lib.rt:135:5
 run-parts-requires : tie.Need-run-parts-requires
 run-parts-requires c κs = let s = c .before .before .args .s .now in subst⁻¹ (λ (n : ℕ). n ≤ length s) (c .glue-bytes .ensures) (glue-within true s)
 
--- src/lib.rt:131:1
 returns : tie.Need-returns
 unfolding running glueOf storeTextOf
 returns c = let s = c .before .before .before .args .s .now in c .run-parts .ensures ∙ ap (λ (n : ℕ). runChecked (drop n s) (checked (take n s))) (c .before .glue-bytes .ensures)

@@ -5,50 +5,34 @@ use Rattle.runner.proofs.Laws.{glue-refused, rest-is, glue-ran}
 use borrow.Author.Needs.{needs}
 use Rattle.runner.proofs.run_parts.Statement.{statement}
 use Rattle.runner.proofs.run_parts.Tie as tie
-use Rattle.runner.proofs.run_parts.Reads as reads
-use Rattle.runner.proofs.run_parts.Lts as lts
-use Rattle.answers.proofs.told.Reads as told-reads
-use Rattle.checker.proofs.check.Reads as check-reads
-use Rattle.runner.proofs.refuse.Reads as refuse-reads
-use Rattle.runner.proofs.run_store.Reads as run-store-reads
 
--- src/lib.rt:116:9
 slice-aggregate-check : tie.Need-slice-aggregate-check
 slice-aggregate-check c = sym (length-take-le (c .before .before .args .n) (c .before .before .args .s .now) (c .before .before .pre))
 
--- src/lib.rt:115:9
 check-requires : tie.Need-check-requires
 check-requires c κs = search needs
 
--- src/lib.rt:124:9
 told-requires : tie.Need-told-requires
 told-requires c κs = search needs
 
--- src/lib.rt:126:9
 refuse-requires : tie.Need-refuse-requires
 refuse-requires c κs = search needs
 
--- src/lib.rt:126:9
 returns : tie.Need-returns
 returns c = glue-refused _ _ _ _ _ (c .before .before .before .before .check .ensures .answer) (c .before .before .before .told .ensures) (c .before .if1 .taken) (c .refuse .ensures)
 
--- src/lib.rt:128:15
 sub-run-store : tie.Need-sub-run-store
 sub-run-store c = search needs
 
--- src/lib.rt:128:15
 part-run-store-start : tie.Need-part-run-store-start
 part-run-store-start c = search needs
 
--- src/lib.rt:128:15
 part-run-store-end : tie.Need-part-run-store-end
 part-run-store-end c = search needs
 
--- src/lib.rt:128:5
 run-store-requires : tie.Need-run-store-requires
 run-store-requires c κs = search needs
 
--- src/lib.rt:105:1
 returns-2 : tie.Need-returns-2
 returns-2 c = glue-ran _ _ _ (rest-is (c .before .before .before .before .before .before .before .before .before .before .before .before .before .before .before .before .before .before .before .before .args .n) (c .before .before .before .before .before .before .before .before .before .before .before .before .before .before .before .before .before .before .before .before .args .s .now) (c .before .before .before .before .before .before .before .before .before .before .before .before .before .before .before .before .before .before .before .before .pre)) _ _ _ _ _ _ _ (c .before .before .before .before .before .before .before .before .before .before .before .check .ensures) _ (c .before .before .before .before .before .before .before .before .before .before .told .ensures) (c .before .before .before .before .before .before .before .before .if1 .left) _ (c .run-store .ensures)
 

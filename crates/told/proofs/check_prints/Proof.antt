@@ -3,25 +3,16 @@ use Rattle.told.proofs.Laws.{check-shown}
 use borrow.Author.Needs.{needs}
 use Rattle.told.proofs.check_prints.Statement.{statement}
 use Rattle.told.proofs.check_prints.Tie as tie
-use Rattle.told.proofs.check_prints.Reads as reads
-use Rattle.told.proofs.check_prints.Lts as lts
-use Rattle.answers.proofs.told.Reads as told-reads
-use Rattle.checker.proofs.answer.Reads as answer-reads
-use Rattle.prints.proofs.answer_text.Reads as answer-text-reads
 
--- src/lib.rt:13:39
 answer-requires : tie.Need-answer-requires
 answer-requires c κs = search needs
 
--- src/lib.rt:13:25
 told-requires : tie.Need-told-requires
 told-requires c κs = search needs
 
--- src/lib.rt:13:5
 answer-text-requires : tie.Need-answer-text-requires
 answer-text-requires c κs = search needs
 
--- src/lib.rt:9:1
 returns : tie.Need-returns
 returns c = check-shown (c .before .before .before .before .before .args .s .now) _ _ _ _ (c .before .before .before .answer .ensures) (c .before .before .told .ensures) (c .answer-text .ensures)
 
