@@ -7,7 +7,7 @@ ghost use Rattle.program.specs.Lines.{tablesOf};
 ghost use Rattle.checker.specs.Says.{Says};
 use rules::Verdict;
 
-// The answer to a glue text, with the program in the tables if it is accepted, which are all 0 before, and again on a refusal.
+// The answer to a glue text, for tables that are all 0: the program is in them if it is accepted, and on a refusal they are all 0 again.
 fn judged(
     s: &[u8],
     size: &mut [u32; 6],
@@ -38,7 +38,7 @@ fn judged(
     Verdict::Accepted
 }
 
-// The same, whatever the tables held before.
+// The answer to a glue text, with the program in the tables if it is accepted. Whatever they held before, they are all 0 on a refusal.
 pub fn check(
     s: &[u8],
     size: &mut [u32; 6],
@@ -54,7 +54,7 @@ pub fn check(
     judged(s, size, nodes, rows, vars, labels, lines)
 }
 
-// The answer alone, with tables of its own, which are made of zeros and not cleared once more.
+// The answer alone, with tables of its own: they are all 0 when they are made, and not cleared once more.
 pub fn answer(s: &[u8]) -> Verdict
     ensures { λ r. ⌜ r ≡ caseOf (verdict (now (s .entry))) ⌝ }
 {
