@@ -10,6 +10,10 @@ use Rattle.prints.proofs.Laws.{named, then}
 use Rattle.prints.proofs.put_datum.Statement.{statement}
 use Rattle.prints.proofs.put_datum.Tie as tie
 
+returns-2 : tie.Need-returns-2
+unfolding valueText
+returns-2 c = named (ap (λ (d : Datum). valueText (Has d)) (c .before .before .before .before .before .before .d2 .given .1)) (then (c .before .before .put-word2 .ensures) (c .put-signed2 .ensures))
+
 pub put-datum-spec : {M : Type 1} → statement M
 unfolding valueText
 put-datum-spec =
@@ -28,5 +32,5 @@ put-datum-spec =
     (λ c κs. omega (arith, ap (λ (d : Datum). length (valueText (Has d))) (c .before .before .before .d3 .given .1)))  -- put-word-requires-3
     (λ c κs. omega (arith, ap (λ (d : Datum). length (valueText (Has d))) (c .before .before .before .before .before .d3 .given .1), c .before .put-word3 .ensures .place))  -- put-decimal-requires
     (λ c. named (ap (λ (d : Datum). valueText (Has d)) (c .before .before .before .before .before .before .d .given .1)) (then (c .before .before .put-word .ensures) (c .put-signed .ensures)))  -- returns
-    (λ c. named (ap (λ (d : Datum). valueText (Has d)) (c .before .before .before .before .before .before .d2 .given .1)) (then (c .before .before .put-word2 .ensures) (c .put-signed2 .ensures)))  -- returns-2
+    returns-2
     (λ c. named (ap (λ (d : Datum). valueText (Has d)) (c .before .before .before .before .before .before .d3 .given .1)) (then (c .before .before .put-word3 .ensures) (c .put-decimal .ensures))))  -- returns-3
