@@ -47,6 +47,14 @@ operand-at t = and 6 operand-kinds.ps (is 6 operand-kinds.ps μ-operand t) opera
 abbrev operand-below : ℕ → In 6 operand-kinds.ps
 operand-below t = and 6 operand-kinds.ps (falls 6 operand-kinds.ps _<_ μ-operand t) operand.Pre
 
+-- what is known of the functions that the walk calls
+abbrev walk-claims : ℕ → walk-lts.Claims
+walk-claims t = (gives-reads.Asked, gives-reads.Learnt, operation-reads.Asked, operation-reads.Learnt, argument-reads.Asked, argument-reads.Learnt, operands-reads.Asked, operands-reads.Learnt, leaf-reads.Asked, leaf-reads.Learnt, operand-below t, operand.Post, one-operand-reads.Asked, one-operand-reads.Learnt, two-operands-reads.Asked, two-operands-reads.Learnt)
+
+walk-returns-5 : (t : ℕ) → walk-lts.Need-returns-5 (walk-claims t) (walk-at t) walk.Post
+unfolding gaveAt eval
+walk-returns-5 t c R D = c .gives5 .ensures ∙ ends-two (eval _ _ _) gave _ _ _ (form _ _ _) (folds _ _ _) _ _ _ (c .before .before .before .before .before .before .before .before .before .before .if1 .left) (c .before .before .before .before .before .before .before .before .before .if2 .left) (c .before .before .before .before .before .before .before .before .operation .ensures) (c .before .before .before .before .before .before .before .argument .ensures) (c .before .before .before .before .before .before .operands .ensures) _ _ _ _ _ (c .before .before .before .before .before .if3 .left) (c .before .before .before .if4 .left) (tree-of _ _ _ _ _ _ _ (c .before .before .before .before .operand .ensures R D)) (after-of _ _ _ _ _ _ _ (c .before .before .before .before .operand .ensures R D)) (tree-of _ _ _ _ _ _ _ (c .before .before .operand2 .ensures R D)) (after-of _ _ _ _ _ _ _ (c .before .before .operand2 .ensures R D)) (c .before .two-operands .ensures _ _ _ _ _)
+
 pub +operand+walk-spec : {M : Type 1} → statement M
 unfolding gaveAt eval
 +operand+walk-spec =
@@ -63,7 +71,7 @@ unfolding gaveAt eval
     (λ c κs. (omega (arith, c .before .before .pre .0), tt))  -- walk-requires
     (λ c. c .walk .ensures))  -- returns-2
     λ t. walk-lts.spec
-    (gives-reads.Asked, gives-reads.Learnt, operation-reads.Asked, operation-reads.Learnt, argument-reads.Asked, argument-reads.Learnt, operands-reads.Asked, operands-reads.Learnt, leaf-reads.Asked, leaf-reads.Learnt, operand-below t, operand.Post, one-operand-reads.Asked, one-operand-reads.Learnt, two-operands-reads.Asked, two-operands-reads.Learnt)
+    (walk-claims t)
     (walk-at t)
     walk.Post
     (λ c κs. search needs)  -- gives-requires
@@ -86,4 +94,4 @@ unfolding gaveAt eval
     (λ c κs. (omega (arith, pos-of-ne-zero (c .before .before .before .before .before .before .before .if1 .left), c .before .before .before .before .before .before .before .before .pre .0), tt))  -- operand-requires-2
     (λ c κs. ((λ p. c .before .before .before .if3 .left (c .before .before .before .before .operands .ensures ∙ p)), (λ p. c .before .if4 .left (c .before .before .before .before .operands .ensures ∙ p))))  -- two-operands-requires
     (λ c κs. search needs)  -- gives-requires-5
-    (λ c R D. c .gives5 .ensures ∙ ends-two (eval _ _ _) gave _ _ _ (form _ _ _) (folds _ _ _) _ _ _ (c .before .before .before .before .before .before .before .before .before .before .if1 .left) (c .before .before .before .before .before .before .before .before .before .if2 .left) (c .before .before .before .before .before .before .before .before .operation .ensures) (c .before .before .before .before .before .before .before .argument .ensures) (c .before .before .before .before .before .before .operands .ensures) _ _ _ _ _ (c .before .before .before .before .before .if3 .left) (c .before .before .before .if4 .left) (tree-of _ _ _ _ _ _ _ (c .before .before .before .before .operand .ensures R D)) (after-of _ _ _ _ _ _ _ (c .before .before .before .before .operand .ensures R D)) (tree-of _ _ _ _ _ _ _ (c .before .before .operand2 .ensures R D)) (after-of _ _ _ _ _ _ _ (c .before .before .operand2 .ensures R D)) (c .before .two-operands .ensures _ _ _ _ _))  -- returns-5
+    (walk-returns-5 t)

@@ -5,6 +5,9 @@ use Rattle.eval.proofs.Laws.{leaf-ends}
 use Rattle.eval.proofs.given_at.Statement.{statement}
 use Rattle.eval.proofs.given_at.Tie as tie
 
+returns : tie.Need-returns
+returns c R D = leaf-ends _ _ _ _ _ _ _ _ (c .before .before .before .is-leaf .ensures (c .before .before .if1 .taken)) (c .gives .ensures) (c .before .leaf-at .ensures _ _ D)
+
 pub given-at-spec : {M : Type 1} → statement M
 given-at-spec =
     tie.close
@@ -13,6 +16,6 @@ given-at-spec =
     (λ c κs. c .before .is-leaf .ensures (c .if1 .taken) .2)  -- leaf-at-requires
     (λ c. omega (arith, c .before .before .is-leaf .ensures (c .before .if1 .taken) .1))  -- add-gives
     (λ c κs. search needs)  -- gives-requires
-    (λ c R D. leaf-ends _ _ _ _ _ _ _ _ (c .before .before .before .is-leaf .ensures (c .before .before .if1 .taken)) (c .gives .ensures) (c .before .leaf-at .ensures _ _ D))  -- returns
+    returns
     (λ c κs. search needs)  -- walk-requires
     (λ c. c .walk .ensures))  -- returns-2
