@@ -3,6 +3,12 @@ use borrow.Author.Needs.{needs}
 use Rattle.answers.proofs.told.Statement.{statement}
 use Rattle.answers.proofs.told.Tie as tie
 
+returns-2 : tie.Need-returns-2
+returns-2 c = rw (c .enum-told2 .given .1)
+
+returns-3 : tie.Need-returns-3
+returns-3 c = rw (c .before .v .given .1)
+
 pub told-spec : {M : Type 1} → statement M
 told-spec =
     tie.close
@@ -29,8 +35,8 @@ told-spec =
     (λ c. search needs)  -- enum-known-v-17
     (λ c. search needs)  -- enum-known-v-18
     (λ c. rw (c .enum-told .given .1))  -- returns
-    (λ c. rw (c .enum-told2 .given .1))  -- returns-2
-    (λ c. rw (c .before .v .given .1))  -- returns-3
+    returns-2
+    returns-3
     (λ c. rw (c .before .v2 .given .1))  -- returns-4
     (λ c. rw (c .before .v3 .given .1))  -- returns-5
     (λ c. rw (c .before .v4 .given .1))  -- returns-6

@@ -16,17 +16,26 @@ Inv-loop s at₀ fresh₀ at fresh = (at ≤ length s) × (at + glueBytes fresh 
 abbrev μ-loop : tie.MeasureT-loop
 μ-loop s at₀ fresh₀ at fresh = length s - at
 
+loop-holds : tie.Need-loop-holds Inv-loop μ-loop
+loop-holds c = (omega arith, omega arith)
+
+returns : tie.Need-returns Inv-loop μ-loop
+returns c = let l = c .before .before .before in omega (arith, glue-here (l .before .before .args .s .now) (l .loop .at) (l .loop .fresh) (c .before .before .loop-test .taken) _ (c .before .store-at .ensures) (c .if1 .taken))
+
+loop-again : tie.Need-loop-again Inv-loop μ-loop
+loop-again c = let l = c .before .before .before .before in (omega arith, omega (arith, glue-on (l .before .before .args .s .now) (l .loop .at) (l .loop .fresh) (c .before .before .before .loop-test .taken) _ (c .before .before .store-at .ensures) (c .before .if1 .left)))
+
 pub glue-bytes-spec : {M : Type 1} → statement M
 glue-bytes-spec =
     tie.close
     (tie.spec
     Inv-loop
     μ-loop
-    (λ c. (omega arith, omega arith))  -- loop-holds
+    loop-holds
     (λ c. search needs)  -- add-next
     (λ c κs. search needs)  -- store-at-requires
-    (λ c. let l = c .before .before .before in omega (arith, glue-here (l .before .before .args .s .now) (l .loop .at) (l .loop .fresh) (c .before .before .loop-test .taken) _ (c .before .store-at .ensures) (c .if1 .taken)))  -- returns
+    returns
     (λ c. search needs)  -- shared-slice-read-fresh
     (λ c. omega arith)  -- loop-less
-    (λ c. let l = c .before .before .before .before in (omega arith, omega (arith, glue-on (l .before .before .args .s .now) (l .loop .at) (l .loop .fresh) (c .before .before .before .loop-test .taken) _ (c .before .before .store-at .ensures) (c .before .if1 .left))))  -- loop-again
+    loop-again
     (λ c. let l = c .before in omega (arith, glue-ends (l .before .before .args .s .now) (l .loop .at) (l .loop .fresh) (c .loop-test .left))))  -- returns-2
