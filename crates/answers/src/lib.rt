@@ -57,7 +57,7 @@ fn store_case(n: u32, line: usize) -> Verdict
 }
 
 // The number and the line of a case.
-pub fn told(v: Verdict) -> Answer
+pub fn answer_of(v: Verdict) -> Answer
     ensures { λ r. ⌜ r ≡ answerOf v ⌝ }
 {
     match v {

@@ -28,8 +28,8 @@ told-apart {r} {q} e i = record { answer = cases-apart (r .answer) (q .answer) (
 pub answers-case-of : Determined answers.case_of.ended answers.case_of.Reads.Learnt
 answers-case-of κs a x y s t = result
 
-pub answers-told : Determined answers.told.ended answers.told.Reads.Learnt
-answers-told κs a x y s t = result
+pub answers-answer-of : Determined answers.answer_of.ended answers.answer_of.Reads.Learnt
+answers-answer-of κs a x y s t = result
 
 -- ---- checker
 

@@ -10,7 +10,7 @@ ghost use Rattle.prints.specs.Written.{printed};
 pub extern "C" fn tapmallet_check(s: &[u8], line: &mut u64) -> u32
     ensures { λ r. ⌜ (r ≡ verdict (now (s .entry)) .number) × (now (line .exit) ≡ verdict (now (s .entry)) .line) ⌝ }
 {
-    let a = answers::told(checker::answer(s));
+    let a = answers::answer_of(checker::answer(s));
     *line = a.line as u64;
     a.number
 }

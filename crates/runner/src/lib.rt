@@ -121,7 +121,7 @@ fn run_parts(s: &[u8], n: usize) -> Ran
         &mut labels,
         &mut body,
     );
-    let a = answers::told(v);
+    let a = answers::answer_of(v);
     if a.number != 0 {
         return refuse(v);
     }

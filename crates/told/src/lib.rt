@@ -10,7 +10,7 @@ pub fn check_prints(s: &[u8], out: &mut [u8; 128]) -> usize
     ensures { λ r. ⌜ (now (out .exit) ≡ printed (checkPrints (now (s .entry)))) × (r ≡ length (checkPrints (now (s .entry)))) ⌝ }
     ensures { λ r. ⌜ Counts r (now (out .exit)) ⌝ }
 {
-    prints::answer_text(answers::told(checker::answer(s)), out)
+    prints::answer_text(answers::answer_of(checker::answer(s)), out)
 }
 
 // The running program: of glue text and store text joined.
@@ -22,5 +22,5 @@ pub fn run_prints(s: &[u8], out: &mut [u8; 128]) -> usize
     let answer = r.answer;
     let state = r.state;
     let value = r.value;
-    prints::result_text(answers::told(answer), state, r.steps, value, out)
+    prints::result_text(answers::answer_of(answer), state, r.steps, value, out)
 }

@@ -9,13 +9,13 @@ use Rattle.export.proofs.tapmallet_check.Tie as tie
 answer-requires : tie.Need-answer-requires
 answer-requires c κs = search needs
 
-told-requires : tie.Need-told-requires
-told-requires c κs = search needs
+answer-of-requires : tie.Need-answer-of-requires
+answer-of-requires c κs = search needs
 
 returns : tie.Need-returns
 returns c =
-    let same = c .told .ensures ∙ answered (c .before .before .before .args .s .now) _ (c .before .answer .ensures) in
+    let same = c .answer-of .ensures ∙ answered (c .before .before .before .args .s .now) _ (c .before .answer .ensures) in
     (ap (λ (a : Answer). a .number) same, ap (λ (a : Answer). a .line) same)
 
 pub tapmallet-check-spec : {M : Type 1} → statement M
-tapmallet-check-spec = tie.close (tie.spec answer-requires told-requires returns)
+tapmallet-check-spec = tie.close (tie.spec answer-requires answer-of-requires returns)

@@ -12,14 +12,14 @@ slice-aggregate-check c = sym (length-take-le (c .before .before .args .n) (c .b
 check-requires : tie.Need-check-requires
 check-requires c κs = search needs
 
-told-requires : tie.Need-told-requires
-told-requires c κs = search needs
+answer-of-requires : tie.Need-answer-of-requires
+answer-of-requires c κs = search needs
 
 refuse-requires : tie.Need-refuse-requires
 refuse-requires c κs = search needs
 
 returns : tie.Need-returns
-returns c = glue-refused _ _ _ _ _ (c .before .before .before .before .check .ensures .answer) (c .before .before .before .told .ensures) (c .before .if1 .taken) (c .refuse .ensures)
+returns c = glue-refused _ _ _ _ _ (c .before .before .before .before .check .ensures .answer) (c .before .before .before .answer-of .ensures) (c .before .if1 .taken) (c .refuse .ensures)
 
 sub-run-store : tie.Need-sub-run-store
 sub-run-store c = search needs
@@ -34,7 +34,7 @@ run-store-requires : tie.Need-run-store-requires
 run-store-requires c κs = search needs
 
 returns-2 : tie.Need-returns-2
-returns-2 c = glue-ran _ _ _ (rest-is (c .before .before .before .before .before .before .before .before .before .before .before .before .before .before .before .before .before .before .before .before .args .n) (c .before .before .before .before .before .before .before .before .before .before .before .before .before .before .before .before .before .before .before .before .args .s .now) (c .before .before .before .before .before .before .before .before .before .before .before .before .before .before .before .before .before .before .before .before .pre)) _ _ _ _ _ _ _ (c .before .before .before .before .before .before .before .before .before .before .before .check .ensures) _ (c .before .before .before .before .before .before .before .before .before .before .told .ensures) (c .before .before .before .before .before .before .before .before .if1 .left) _ (c .run-store .ensures)
+returns-2 c = glue-ran _ _ _ (rest-is (c .before .before .before .before .before .before .before .before .before .before .before .before .before .before .before .before .before .before .before .before .args .n) (c .before .before .before .before .before .before .before .before .before .before .before .before .before .before .before .before .before .before .before .before .args .s .now) (c .before .before .before .before .before .before .before .before .before .before .before .before .before .before .before .before .before .before .before .before .pre)) _ _ _ _ _ _ _ (c .before .before .before .before .before .before .before .before .before .before .before .check .ensures) _ (c .before .before .before .before .before .before .before .before .before .before .answer-of .ensures) (c .before .before .before .before .before .before .before .before .if1 .left) _ (c .run-store .ensures)
 
 pub run-parts-spec : {M : Type 1} → statement M
 run-parts-spec =
@@ -42,7 +42,7 @@ run-parts-spec =
     (tie.spec
     slice-aggregate-check
     check-requires
-    told-requires
+    answer-of-requires
     refuse-requires
     returns
     sub-run-store

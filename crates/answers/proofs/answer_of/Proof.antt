@@ -1,7 +1,7 @@
--- `answers::told` meets its contract: case by case. Assumes nothing.
+-- `answers::answer_of` meets its contract: case by case. Assumes nothing.
 use borrow.Author.Needs.{needs}
-use Rattle.answers.proofs.told.Statement.{statement}
-use Rattle.answers.proofs.told.Tie as tie
+use Rattle.answers.proofs.answer_of.Statement.{statement}
+use Rattle.answers.proofs.answer_of.Tie as tie
 
 returns-2 : tie.Need-returns-2
 returns-2 c = rw (c .enum-told2 .given .1)
@@ -9,8 +9,8 @@ returns-2 c = rw (c .enum-told2 .given .1)
 returns-3 : tie.Need-returns-3
 returns-3 c = rw (c .before .v .given .1)
 
-pub told-spec : {M : Type 1} → statement M
-told-spec =
+pub answer-of-spec : {M : Type 1} → statement M
+answer-of-spec =
     tie.close
     (tie.spec
     (λ c. search needs)  -- enum-told
