@@ -16,13 +16,16 @@ Inv-loop s at left₀ count₀ i₀ left count i = (count + left ≡ length s) �
 abbrev μ-loop : tie.MeasureT-loop
 μ-loop s at left₀ count₀ i₀ left count i = left
 
+loop-holds : tie.Need-loop-holds Inv-loop μ-loop
+loop-holds c = (omega arith, refl)
+
 pub cells-from-spec : {M : Type 1} → statement M
 cells-from-spec =
     tie.close
     (tie.spec
     Inv-loop
     μ-loop
-    (λ c. (omega arith, refl))  -- loop-holds
+    loop-holds
     (λ c. search needs)  -- sub-left
     (λ c κs. search needs)  -- cell-word-requires
     (λ c. search needs)  -- enum-known-r

@@ -1,6 +1,7 @@
 -- `tally::store_key` meets its contract: a chain of three words. Assumes nothing.
 use Rattle.rules.specs.Store.Text.{storeKey}
 use borrow.Author.Needs.{needs}
+use mathlib.Core.Path.{refl}
 use Rattle.tally.proofs.store_key.Statement.{statement}
 use Rattle.tally.proofs.store_key.Tie as tie
 
@@ -15,4 +16,4 @@ store-key-spec =
     (λ c κs. search needs)  -- or-word-requires-2
     (λ c. search needs)  -- slice-aggregate-or-word-3
     (λ c κs. search needs)  -- or-word-requires-3
-    (λ c. rw (c .or-word3 .ensures, c .before .before .or-word2 .ensures, c .before .before .before .before .or-word .ensures)))  -- returns
+    (λ c. rw (c .or-word3 .ensures, c .before .before .or-word2 .ensures, c .before .before .before .before .or-word .ensures) refl))  -- returns
