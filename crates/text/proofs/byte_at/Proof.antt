@@ -7,11 +7,17 @@ use Rattle.text.proofs.Laws.{getD-any}
 use Rattle.text.proofs.byte_at.Statement.{statement}
 use Rattle.text.proofs.byte_at.Tie as tie
 
+returns : tie.Need-returns
+returns c = let a = c .before .before .before .before .args in c .wide .ensures ∙ getD-any (a .s .now) (a .i) 0 256 (omega arith)
+
+returns-2 : tie.Need-returns-2
+returns-2 c = sym (List·getD-eq-default (c .before .before .args .s .now) 256 (c .if1 .left))
+
 pub byte-at-spec : {M : Type 1} → statement M
 byte-at-spec =
     tie.close
     (tie.spec
     (λ c. search needs)  -- shared-slice-read-wide
     (λ c κs. search needs)  -- wide-requires
-    (λ c. let a = c .before .before .before .before .args in c .wide .ensures ∙ getD-any (a .s .now) (a .i) 0 256 (omega arith))  -- returns
-    (λ c. sym (List·getD-eq-default (c .before .before .args .s .now) 256 (c .if1 .left))))  -- returns-2
+    returns
+    returns-2)
