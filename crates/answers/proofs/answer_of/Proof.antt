@@ -1,13 +1,14 @@
 -- `answers::answer_of` meets its contract: case by case. Assumes nothing.
 use borrow.Author.Needs.{needs}
+use mathlib.Core.Path.{refl}
 use Rattle.answers.proofs.answer_of.Statement.{statement}
 use Rattle.answers.proofs.answer_of.Tie as tie
 
 returns-2 : tie.Need-returns-2
-returns-2 c = rw (c .enum-told2 .given .1)
+returns-2 c = rw (c .enum-told2 .given .1) refl
 
 returns-3 : tie.Need-returns-3
-returns-3 c = rw (c .before .v .given .1)
+returns-3 c = rw (c .before .v .given .1) refl
 
 pub answer-of-spec : {M : Type 1} → statement M
 answer-of-spec =

@@ -1,5 +1,5 @@
 -- `answers::glue_case` meets its contract: the number of each arm is its place in the table. Assumes nothing.
-use mathlib.Core.Path.{sym}
+use mathlib.Core.Path.{refl, sym}
 use Rattle.rules.specs.declared.Verdict.the-variants as C
 use Rattle.rules.specs.Answers.{glueCases}
 use Rattle.answers.proofs.Laws.{past-all}
@@ -19,7 +19,7 @@ glue-case-spec =
     (λ c. rw (c .match .keys7))  -- returns-7
     (λ c. rw (c .match .keys8))  -- returns-8
     (λ c. rw (c .match .keys9))  -- returns-9
-    (λ c. rw (c .match .keys10))  -- returns-10
+    (λ c. rw (c .match .keys10) refl)  -- returns-10
     (λ c. rw (c .match .keys11))  -- returns-11
     (λ c. rw (c .match .keys12))  -- returns-12
     (λ c. rw (c .match .keys13))  -- returns-13

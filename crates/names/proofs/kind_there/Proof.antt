@@ -2,6 +2,7 @@
 use Rattle.rules.specs.Names.{kindThere}
 use Rattle.rules.specs.View.{program}
 use borrow.Author.Needs.{needs}
+use mathlib.Core.Path.{refl}
 use Rattle.names.proofs.kind_there.Statement.{statement}
 use Rattle.names.proofs.kind_there.Tie as tie
 
@@ -13,5 +14,5 @@ kind-there-spec =
     (λ c. search needs)  -- enum-told
     (λ c. search needs)  -- enum-known-k
     (λ c κs. search needs)  -- row-there-requires
-    (λ c N R D L B. rw (c .enum-told .given .1))  -- returns
+    (λ c N R D L B. rw (c .enum-told .given .1) refl)  -- returns
     (λ c N R D L B. rw (c .before .before .k .given .1) (c .row-there .ensures R)))  -- returns-2
