@@ -16,7 +16,7 @@ use Rattle.rules.specs.Bytes.{bytes}
 use Rattle.rules.specs.Laws.Tests.{by-when}
 use Rattle.rules.specs.Text.Words.{byteAt, plainAt, byteIs, arity, headAt}
 use Rattle.rules.specs.Text.Shape.{after, over, end, space, needed, exprOn, exprsShape, fieldsOn, fieldsShape, entryShape, moreEntries, labelShape, noKey, keyAt, keyOf}
-use Rattle.text.proofs.Chain.{only, chain, chain-by}
+use Rattle.text.proofs.Chain.{only, chain, chain-by, chain-none}
 
 -- ---- one after the other: the code goes on from what came out, the definitions go into it
 
@@ -174,7 +174,11 @@ module _ (s : List ℕ) (at b : ℕ) (e : b ≡ byteAt s at) where
 
   pub key-none : (b ≡ 103 → ⊥) → (b ≡ 105 → ⊥) → (b ≡ 108 → ⊥) → (b ≡ 112 → ⊥) → (b ≡ 114 → ⊥) → (b ≡ 115 → ⊥) → (b ≡ 116 → ⊥) → keyAt s at ≡ Bad at
   key-none ng ni nl np nr ns nt =
-      key-by ∙ simp (ne-eqb b 103 ng, ne-eqb b 105 ni, ne-eqb b 108 nl, ne-eqb b 112 np, ne-eqb b 114 nr, ne-eqb b 115 ns, ne-eqb b 116 nt)
+      let i = ne-eqb b 105 ni in
+      let l = ne-eqb b 108 nl in
+      let p = ne-eqb b 112 np in
+      let r = ne-eqb b 114 nr in
+      key-by ∙ chain-none s at b keys (r, (ne-eqb b 116 nt, (p, (l, (ne-eqb b 115 ns, (p, (ne-eqb b 103 ng, (i, (i, (i, (i, (r, (l, tt)))))))))))))
 
 -- no one of the numbers from 1 to j: what is known in the last arm of a match on k
 abbrev pub Others : ℕ → ℕ → Type 0

@@ -2,7 +2,7 @@
 use native.Mathlib.Decide.{decLt}
 use native.Mathlib.Omega.{arith}
 use borrow.Author.Tests.{eqb-false, ne-eqb}
-use Rattle.rules.specs.Prelude.{ℕ, _+_, _<_, _≤_, max, Bool, true, List, [], _∷_, _≡_, refl, sym, ap, _∙_, eqb, length, drop}
+use Rattle.rules.specs.Prelude.{ℕ, _+_, _<_, _≤_, max, Bool, true, false, List, [], _∷_, _≡_, refl, sym, ap, _∙_, eqb, length, drop}
 use Rattle.rules.specs.declared.Reading.{Reading}
 use Rattle.rules.specs.declared.Reading.the-variants.{Got, Bad}
 use Rattle.rules.specs.When.{when}
@@ -60,6 +60,18 @@ module _ (s : List ℕ) (at : ℕ) where
   pub chain-by : {b : ℕ} (ws : List (List ℕ × ℕ)) → b ≡ byteAt s at → chain ws (Bad at) ≡ chain (only b ws) (Bad at)
   chain-by ws e = rw e (chain-only ws (Bad at) (omega arith))
 
+-- no word may begin with the byte
+abbrev pub None : ℕ → List (List ℕ × ℕ) → Type 0
+None b [] = Unit
+None b (w ∷ ws) = (begins b (w .0) ≡ false) × None b ws
+
+only-none : (b : ℕ) (ws : List (List ℕ × ℕ)) → None b ws → only b ws ≡ []
+only-none b [] h = refl
+only-none b (w ∷ ws) (e, h) = rw e (only-none b ws h)
+
+pub chain-none : (s : List ℕ) (at b : ℕ) (ws : List (List ℕ × ℕ)) → None b ws → chain s at (only b ws) (Bad at) ≡ Bad at
+chain-none s at b ws h = rw (only-none b ws h)
+
 -- ---- the operators
 
 abbrev operators : List (List ℕ × ℕ)
@@ -74,4 +86,4 @@ module _ (s : List ℕ) (at b : ℕ) (e : b ≡ byteAt s at) where
       → operatorAt s at ≡ Bad at
   operator-none na ne nf ni nl nm ns nv =
       operator-by
-      ∙ simp (ne-eqb b 97 na, ne-eqb b 101 ne, ne-eqb b 102 nf, ne-eqb b 105 ni, ne-eqb b 108 nl, ne-eqb b 109 nm, ne-eqb b 115 ns, ne-eqb b 118 nv)
+      ∙ chain-none s at b operators (ne-eqb b 102 nf, (ne-eqb b 105 ni, (ne-eqb b 118 nv, (ne-eqb b 115 ns, (ne-eqb b 97 na, (ne-eqb b 115 ns, (ne-eqb b 109 nm, (ne-eqb b 101 ne, (ne-eqb b 108 nl, tt)))))))))

@@ -36,11 +36,11 @@ key-at-spec =
     (λ c κs. search needs)  -- or-word-requires-12
     (λ c. search needs)  -- slice-aggregate-or-word-13
     (λ c κs. search needs)  -- or-word-requires-13
-    (λ c. let a = c .before .before .before .before .before .args in c .or-word .ensures ∙ sym (key-by (a .s .now) (a .at) 103 (sym (c .before .before .match .keys1) ∙ c .before .before .before .byte-at .ensures)))  -- returns
+    (λ c. let a = c .before .before .before .before .before .args in rw (c .or-word .ensures) (sym (key-by (a .s .now) (a .at) 103 (sym (c .before .before .match .keys1) ∙ c .before .before .before .byte-at .ensures))))  -- returns
     (λ c. let a = c .before .before .before .before .before .before .before .before .before .before .before .args in rw (c .or-word5 .ensures, c .before .before .or-word4 .ensures, c .before .before .before .before .or-word3 .ensures, c .before .before .before .before .before .before .or-word2 .ensures) (sym (key-by (a .s .now) (a .at) 105 (sym (c .before .before .before .before .before .before .before .before .match .keys2) ∙ c .before .before .before .before .before .before .before .before .before .byte-at .ensures))))  -- returns-2
     (λ c. let a = c .before .before .before .before .before .before .before .args in rw (c .or-word7 .ensures, c .before .before .or-word6 .ensures) (sym (key-by (a .s .now) (a .at) 108 (sym (c .before .before .before .before .match .keys3) ∙ c .before .before .before .before .before .byte-at .ensures))))  -- returns-3
     (λ c. let a = c .before .before .before .before .before .before .before .args in rw (c .or-word9 .ensures, c .before .before .or-word8 .ensures) (sym (key-by (a .s .now) (a .at) 112 (sym (c .before .before .before .before .match .keys4) ∙ c .before .before .before .before .before .byte-at .ensures))))  -- returns-4
     (λ c. let a = c .before .before .before .before .before .before .before .args in rw (c .or-word11 .ensures, c .before .before .or-word10 .ensures) (sym (key-by (a .s .now) (a .at) 114 (sym (c .before .before .before .before .match .keys5) ∙ c .before .before .before .before .before .byte-at .ensures))))  -- returns-5
-    (λ c. let a = c .before .before .before .before .before .args in c .or-word12 .ensures ∙ sym (key-by (a .s .now) (a .at) 115 (sym (c .before .before .match .keys6) ∙ c .before .before .before .byte-at .ensures)))  -- returns-6
-    (λ c. let a = c .before .before .before .before .before .args in c .or-word13 .ensures ∙ sym (key-by (a .s .now) (a .at) 116 (sym (c .before .before .match .keys7) ∙ c .before .before .before .byte-at .ensures)))  -- returns-7
+    (λ c. let a = c .before .before .before .before .before .args in rw (c .or-word12 .ensures) (sym (key-by (a .s .now) (a .at) 115 (sym (c .before .before .match .keys6) ∙ c .before .before .before .byte-at .ensures))))  -- returns-6
+    (λ c. let a = c .before .before .before .before .before .args in rw (c .or-word13 .ensures) (sym (key-by (a .s .now) (a .at) 116 (sym (c .before .before .match .keys7) ∙ c .before .before .before .byte-at .ensures))))  -- returns-7
     (λ c. let a = c .before .before .before .args in let o = c .match .rest in sym (key-none (a .s .now) (a .at) _ (c .before .byte-at .ensures) (o .0 .0 .0 .0 .0 .0 .1) (o .0 .0 .0 .0 .0 .1) (o .0 .0 .0 .0 .1) (o .0 .0 .0 .1) (o .0 .0 .1) (o .0 .1) (o .1))))  -- returns-8
