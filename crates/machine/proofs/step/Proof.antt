@@ -48,8 +48,9 @@ use denote.Signature.Struct.{makes}
 use Rattle.machine.specs.declared.Machine.{Machine}
 use Rattle.moves.specs.declared.Moved.{Moved}
 use Rattle.rules.specs.declared.Stepped.{Stepped}
-use Rattle.moves.specs.Moves.{parts, Moves}
-use Rattle.machine.specs.Steps.{lentTo}
+use Rattle.rules.specs.Machine.Tables.{stepWithin}
+use Rattle.moves.specs.Moves.{lines, parts, Moves}
+use Rattle.machine.specs.Steps.{lentTo, tablesIn}
 use Rattle.machine.proofs.Machine as T
 use Rattle.machine.proofs.Machine.Laws as T′
 use Rattle.moves.proofs.Moved as D
@@ -186,6 +187,17 @@ module _ {M : Type 1} (𝓤 : URA M) (H : Heap 𝓤) (A : Atoms 𝓤) (W : Given
   abbrev Said : Moved → List ℕ → List ℕ → Type 0
   Said r z0 z1 = Moves (p0 .now) (p1 .now) (p2 .now) (p3 .now) (parts (p4 .now) (p5 .now) y0 y1 n0 n1 n2) r z0 z1
 
+  -- then the numbers of that result are those at which the machine is left
+  module _ (r : Moved) (z0 z1 : List ℕ) (e : Said r z0 z1) (R D : List ℕ) where
+    abbrev left : Machine
+    left = lentTo h₀ (stepWithin (lines (p0 .now) (p1 .now) (p2 .now) (p3 .now) R D) (tablesIn (p4 .now) (p5 .now) h₀))
+
+    line : r .at ≡ left .at
+    line i = e R D .1 i .at
+
+    count : r .steps ≡ left .steps
+    count i = e R D .1 i .steps
+
   abbrev Passed : Type 0
   Passed = RefT (List ℕ) × (RefT (List ℕ) × (RefT (List ℕ) × (RefT (List ℕ) × (RefT (List ℕ) × (RefT (List ℕ) × (RefT (List ℕ) × (RefT (List ℕ) × (ℕ × (ℕ × (ℕ × (Unit {0})))))))))))
 
@@ -205,7 +217,7 @@ module _ {M : Type 1} (𝓤 : URA M) (H : Heap 𝓤) (A : Atoms 𝓤) (W : Given
   exits r z0 z1 e is =
       qed W (‵ (fobs γ (R .coded .code (h z0 z1 (r .at) (r .steps) (r .value)))) ∷ ‵ (fbor κ (Body (mem R) b o γ)) ∷ ‵ (flft κ q) ∷ ‵ (flft κ′ q′) ∷ ‵ (flft κ0 q0) ∷ ‵ (flft κ1 q1) ∷ ‵ (flft κ2 q2) ∷ ‵ (flft κ3 q3) ∷ ‵ (flft κ4 q4) ∷ ‵ (flft κ5 q5) ∷ ‵ Code0 ∷ ‵ Code1 ∷ ‵ Code2 ∷ ‵ Code3 ∷ ‵ Code4 ∷ ‵ Code5 ∷ []) ∵
       suffices ! _ (ends-at 𝓤 H A fn.ended stayed (fn.clauses 𝓤 H A at-mem run) W (((κ, (κ′, (κ0, (κ1, (κ2, (κ3, (κ4, (κ5, tt)))))))), (q, (q′, (q0, (q1, (q2, (q3, (q4, (q5, tt)))))))), bounds, a, vals), tt) (out (r .out)) (r .out) (h z0 z1 (r .at) (r .steps) (r .value), (tt, (tt, (tt, (tt, (tt, (tt, tt))))))) (tt, (tt, (tt, (tt, (tt, (tt, (tt, tt)))))))) $
-      says ! (λ R D. (e R D .0, λ i. lentTo h₀ (e R D .1 i))) $
+      says ! (λ R D. (e R D .0, λ i. record { cells = lentTo h₀ (e R D .1 i) .cells; vals = lentTo h₀ (e R D .1 i) .vals; at = line r z0 z1 e R D i; steps = count r z0 z1 e R D i; value = e R D .1 i .value })) $
       nothing ! $ move ! (10 ∷ 0 ∷ []) $ join ! $ move ! (9 ∷ 0 ∷ []) $ join ! $ move ! (8 ∷ 0 ∷ []) $ join ! $ move ! (7 ∷ 0 ∷ []) $ join ! $ move ! (6 ∷ 0 ∷ []) $ join ! $ move ! (5 ∷ 0 ∷ []) $ join ! $ move ! (4 ∷ 0 ∷ []) $ join ! $ move ! (3 ∷ 0 ∷ []) $ join ! $ frame ! $ feqI ! (List Val) (vptr b o ∷ []) (vptr b o ∷ []) refl $ fjoin3 ! $ nothing ! $ move ! (7 ∷ 0 ∷ []) $ fjoin ! $ move ! (6 ∷ 0 ∷ []) $ fjoin ! $ move ! (5 ∷ 0 ∷ []) $ fjoin ! $ move ! (4 ∷ 0 ∷ []) $ fjoin ! $ move ! (3 ∷ 0 ∷ []) $ fjoin ! $ move ! (2 ∷ 0 ∷ []) $ fjoin ! $ move ! (1 ∷ 0 ∷ []) $ fjoin ! $ owned ! S.the-row (Is S.the-row) (EL.makes S.the-type S′.the-plain 𝓤 H A) (r .out) _ is $ move ! (1 ∷ 0 ∷ []) $ done !
 
   abbrev rows : List RattleType
