@@ -7,11 +7,21 @@ use borrow.Author.Needs.{needs}
 use Rattle.storage.proofs.block_tag.Statement.{statement}
 use Rattle.storage.proofs.block_tag.Tie as tie
 
+returns : tie.Need-returns
+returns c C =
+    let a = c .before .before .before .args in
+    c .head-cell .ensures ∙ sym (tag-in (a .size .now) (a .heads .now) C (a .b) (below (c .before .before .block-count .ensures _ C) (c .before .if1 .taken)))
+
+returns-2 : tie.Need-returns-2
+returns-2 c C =
+    let a = c .before .before .args in
+    sym (tag-out (storeOf (a .size .now) (a .heads .now) C) (a .b) (above (c .before .block-count .ensures _ C) (c .if1 .left)))
+
 pub block-tag-spec : {M : Type 1} → statement M
 block-tag-spec =
     tie.close
     (tie.spec
     (λ c κs. search needs)  -- block-count-requires
     (λ c κs. search needs)  -- head-cell-requires
-    (λ c. let a = c .before .before .before .args in λ C. c .head-cell .ensures ∙ sym (tag-in (a .size .now) (a .heads .now) C (a .b) (below (c .before .before .block-count .ensures _ C) (c .before .if1 .taken))))  -- returns
-    (λ c. let a = c .before .before .args in λ C. sym (tag-out (storeOf (a .size .now) (a .heads .now) C) (a .b) (above (c .before .block-count .ensures _ C) (c .if1 .left)))))  -- returns-2
+    returns
+    returns-2)
