@@ -5,6 +5,11 @@ use Rattle.moves.proofs.Applied.{turned, stuck, fell, jumped, var-set, 
 use Rattle.moves.proofs.apply.Statement.{statement}
 use Rattle.moves.proofs.apply.Tie as tie
 
+returns : tie.Need-returns
+returns c =
+    let s = c .before .before in
+    stuck (s .args .act) (s .args .cells .now) (s .args .vals .now) (s .args .at) (s .args .steps) (s .args .value) (c .enum-told .given .1)
+
 pub apply-spec : {M : Type 1} → statement M
 apply-spec =
     tie.close
@@ -28,7 +33,7 @@ apply-spec =
     (λ c. search needs)  -- enum-known-act-4
     (λ c κs. search needs)  -- code-of-requires-3
     (λ c κs. search needs)  -- moved-to-requires-5
-    (λ c. let s = c .before .before in stuck (s .args .act) (s .args .cells .now) (s .args .vals .now) (s .args .at) (s .args .steps) (s .args .value) (c .enum-told .given .1))  -- returns
+    returns
     (λ c. let s = c .before .before .before in fell (s .args .act) (s .args .cells .now) (s .args .vals .now) (s .args .at) (s .args .steps) (s .args .value) _ (c .before .enum-told2 .given .1) (c .moved-to .ensures))  -- returns-2
     (λ c. let s = c .before .before .before .before in jumped (s .args .act) (s .args .cells .now) (s .args .vals .now) (s .args .at) (s .args .steps) (s .args .value) _ _ (c .before .before .act .given .1) (c .moved-to2 .ensures))  -- returns-3
     (λ c. let s = c .before .before .before .before .before .before .before in var-set (s .args .act) (s .args .cells .now) (s .args .vals .now) (s .args .at) (s .args .steps) (s .args .value) _ _ _ (c .before .before .code-of .ensures) _ _ (c .before .before .before .before .before .act2 .given .1) (turned _ (c .before .before .before .before .before .act2 .given .1) (s .pre .1) .1) (c .before .put-val .ensures) (c .moved-to3 .ensures))  -- returns-4
