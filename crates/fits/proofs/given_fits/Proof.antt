@@ -1,8 +1,13 @@
 -- `fits::given_fits` meets its contract. Assumes nothing.
 use Rattle.rules.specs.Fits.{fits}
+use mathlib.Core.Path.{refl}
 use borrow.Author.Needs.{needs}
 use Rattle.fits.proofs.given_fits.Statement.{statement}
 use Rattle.fits.proofs.given_fits.Tie as tie
+
+returns-3 : tie.Need-returns-3
+unfolding fits
+returns-3 c C = rw (c .before .before .before .before .before .g .given .1, c .before .before .enum-told2 .given .1, c .enum-told4 .given .1) refl
 
 pub given-fits-spec : {M : Type 1} → statement M
 unfolding fits
@@ -23,7 +28,7 @@ given-fits-spec =
     (λ c κs. search needs)  -- fits-place-requires
     (λ c. λ C. rw (c .enum-told .given .1))  -- returns
     (λ c. λ C. rw (c .before .before .before .before .before .g .given .1, c .before .before .enum-told2 .given .1, c .enum-told3 .given .1))  -- returns-2
-    (λ c. λ C. rw (c .before .before .before .before .before .g .given .1, c .before .before .enum-told2 .given .1, c .enum-told4 .given .1))  -- returns-3
+    returns-3
     (λ c. λ C. rw (c .before .before .before .before .before .g .given .1, c .before .before .enum-told2 .given .1, c .enum-told5 .given .1))  -- returns-4
     (λ c. λ C. rw (c .before .before .before .before .before .before .g .given .1, c .before .before .before .k .given .1, c .enum-told6 .given .1))  -- returns-5
     (λ c. λ C. rw (c .before .before .before .before .before .before .before .before .g .given .1, c .before .before .before .before .before .k .given .1, c .before .before .d .given .1) (c .fits-imm .ensures))  -- returns-6
