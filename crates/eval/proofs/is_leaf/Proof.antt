@@ -1,7 +1,7 @@
 -- `eval::is_leaf` meets its contract. Assumes nothing.
-use mathlib.Core.Path.{_≡_, ap, sym, _∙_}
-use native.Mathlib.Omega.{arith}
+use mathlib.Core.Path.{ap, subst, sym, _∙_}
 use Prim.Native.Nat.{ℕ}
+use lib.Dec.{T}
 use borrow.Author.Needs.{needs}
 use Rattle.rules.specs.View.{formOf}
 use Rattle.program.specs.Nodes.{arity}
@@ -13,9 +13,9 @@ unfolding formOf
 is-leaf-spec =
     tie.close
     (tie.spec
-    (λ c e. let z : _≡_ {A = ℕ} 0 1 = cc e in absurd (omega (arith, z)))  -- returns
-    (λ c e. let z : _≡_ {A = ℕ} 0 1 = cc e in absurd (omega (arith, z)))  -- returns-2
+    (λ c e. absurd (subst T (sym e) tt))  -- returns
+    (λ c e. absurd (subst T (sym e) tt))  -- returns-2
     (λ c κs. search needs)  -- operation-requires
     (λ c e. (c .before .before .before .if1 .left, c .before .before .if2 .left, ap (λ (o : ℕ). arity (formOf o)) (sym (c .before .operation .ensures) ∙ c .match .keys1)))  -- returns-3
     (λ c e. (c .before .before .before .if1 .left, c .before .before .if2 .left, ap (λ (o : ℕ). arity (formOf o)) (sym (c .before .operation .ensures) ∙ c .match .keys2)))  -- returns-4
-    (λ c e. let z : _≡_ {A = ℕ} 0 1 = cc e in absurd (omega (arith, z))))  -- returns-5
+    (λ c e. absurd (subst T (sym e) tt)))  -- returns-5
