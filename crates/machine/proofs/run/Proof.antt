@@ -22,11 +22,13 @@ abbrev μ-loop : tie.MeasureT-loop
 taken : (c : tie.After-step-once Inv-loop μ-loop) → let a = c .before .before .before .before .args in let l = c .before .before .before .loop in Moves (a .size .now) (a .nodes .now) (a .labels .now) (a .body .now) (parts (a .store .now) (a .heads .now) (l .cells) (l .vals) (l .i) (l .n) (l .v)) (c .step-once .result) (c .step-once .last .1 .1 .1 .1 .1 .1 .0) (c .step-once .last .1 .1 .1 .1 .1 .1 .1 .0)
 taken c = c .step-once .ensures
 
--- whatever it is taken from, it counts one
+-- whatever line it is taken from, it counts one
 loop-less : tie.Need-loop-less Inv-loop μ-loop
 loop-less c =
     let a = c .before .before .before .before .before .before .args in
-    fewer (a .size .now) (a .nodes .now) (a .labels .now) (a .body .now) _ _ _ _ (c .before .before .step-once .ensures) (c .enum-told .given .1)
+    let l = c .before .before .before .before .before .loop in
+    let s = c .before .before .step-once in
+    fewer (a .size .now) (a .nodes .now) (a .labels .now) (a .body .now) (parts (a .store .now) (a .heads .now) (l .cells) (l .vals) _ (l .n) (l .v)) (s .result) _ _ (s .ensures) (c .enum-told .given .1)
 
 pub run-spec : {M : Type 1} → statement M
 run-spec =
