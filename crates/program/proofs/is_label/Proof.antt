@@ -1,6 +1,7 @@
 -- `program::is_label` meets its contract. Assumes nothing.
 use Rattle.program.specs.Lines.{isLabelLine}
 use borrow.Author.Tests.{eq-eqb, ne-eqb}
+use mathlib.Core.Path.{refl}
 use borrow.Author.Needs.{needs}
 use Rattle.program.proofs.is_label.Statement.{statement}
 use Rattle.program.proofs.is_label.Tie as tie
@@ -11,5 +12,5 @@ is-label-spec =
     tie.close
     (tie.spec
     (λ c. search needs)  -- cast-result
-    (λ c. rw (eq-eqb _ 9 (c .if1 .taken)))  -- returns
-    (λ c. rw (ne-eqb _ _ (c .if1 .left))))  -- returns-2
+    (λ c. rw (eq-eqb _ 9 (c .if1 .taken)) refl)  -- returns
+    (λ c. rw (ne-eqb _ _ (c .if1 .left)) refl))  -- returns-2

@@ -1,6 +1,7 @@
 -- `program::psi_code` meets its contract. Assumes nothing.
 use Rattle.rules.specs.View.{psiCode}
 use borrow.Author.Tests.{ne-eqb}
+use mathlib.Core.Path.{refl}
 use borrow.Author.Needs.{needs}
 use Rattle.program.proofs.psi_code.Statement.{statement}
 use Rattle.program.proofs.psi_code.Tie as tie
@@ -11,6 +12,6 @@ psi-code-spec =
     tie.close
     (tie.spec
     (λ c. search needs)  -- sub-t3
-    (λ c. rw (c .match .keys1))  -- returns
-    (λ c. rw (c .match .keys2))  -- returns-2
-    (λ c. rw (ne-eqb _ _ (c .match .rest .1))))  -- returns-3
+    (λ c. rw (c .match .keys1) refl)  -- returns
+    (λ c. rw (c .match .keys2) refl)  -- returns-2
+    (λ c. rw (ne-eqb _ _ (c .match .rest .1)) refl))  -- returns-3
