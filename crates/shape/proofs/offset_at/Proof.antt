@@ -1,6 +1,6 @@
 -- `shape::offset_at` meets its contract: the word or the number, which is small enough to be raised. Assumes nothing.
 use borrow.Author.Needs.{needs}
-use mathlib.Core.Path.{ap}
+use mathlib.Core.Path.{ap, refl}
 use native.Mathlib.Omega.{arith}
 use Rattle.rules.specs.Text.Shape.{anyWord, offsetAt}
 use Rattle.rules.specs.Text.Words.{valueOf}
@@ -17,4 +17,4 @@ offset-at-spec =
     (λ c κs. search needs)  -- or-word-requires
     (λ c κs. search needs)  -- plain-at-requires
     (λ c κs. let a = c .before .before .before .before .args in (omega (arith, ap valueOf (c .plain-at .ensures), value-most (plain-reads (a .s .now) (a .at))), omega arith))  -- or-number-requires
-    (λ c. rw (c .or-number .ensures, c .before .plain-at .ensures, c .before .before .or-word .ensures)))  -- returns
+    (λ c. rw (c .or-number .ensures, c .before .plain-at .ensures, c .before .before .or-word .ensures) refl))  -- returns

@@ -1,6 +1,6 @@
 -- `shape::tag_at` meets its contract: the word or the number, which is small enough to be raised. Assumes nothing.
 use borrow.Author.Needs.{needs}
-use mathlib.Core.Path.{ap}
+use mathlib.Core.Path.{ap, refl}
 use native.Mathlib.Omega.{arith}
 use Rattle.rules.specs.Text.Shape.{anyWord, tagAt}
 use Rattle.rules.specs.Text.Words.{valueOf}
@@ -17,4 +17,4 @@ tag-at-spec =
     (λ c κs. search needs)  -- or-word-requires
     (λ c κs. search needs)  -- number-at-requires
     (λ c κs. let a = c .before .before .before .before .args in (omega (arith, ap valueOf (c .number-at .ensures), value-most (number-reads (a .s .now) (a .at))), omega arith))  -- or-number-requires
-    (λ c. rw (c .or-number .ensures, c .before .number-at .ensures, c .before .before .or-word .ensures)))  -- returns
+    (λ c. rw (c .or-number .ensures, c .before .number-at .ensures, c .before .before .or-word .ensures) refl))  -- returns
