@@ -1,6 +1,8 @@
 -- `body::rule_ifimm` meets its contract. Assumes nothing.
 use Rattle.rules.specs.Body.{ruleIfimm}
-use mathlib.Core.Path.{_∙_, sym}
+use Rattle.rules.specs.Environments.{withBoxed}
+use Rattle.rules.specs.declared.Boxed.the-variants as B
+use mathlib.Core.Path.{_≡_, _∙_, sym}
 use borrow.Author.Needs.{needs}
 use Rattle.body.proofs.rule_ifimm.Statement.{statement}
 use Rattle.body.proofs.rule_ifimm.Tie as tie
@@ -26,5 +28,5 @@ rule-ifimm-spec =
     (λ c κs. search needs)  -- refused-requires-3
     (λ c. λ L m. let Γ = c .before .before .before .before .before .args .env in rw (sym (c .before .before .before .before .var-judged .ensures) ∙ c .before .before .n .given .1) (c .refused .ensures L m Γ))  -- returns
     (λ c. λ L m. let Γ = c .before .before .before .before .before .before .before .args .env in rw (sym (c .before .before .before .before .before .before .var-judged .ensures) ∙ c .before .before .before .before .k .given .1) (rw (c .before .enum-told .given .1) (c .refused2 .ensures L m Γ)))  -- returns-2
-    (λ c. λ L m. let Γ = c .before .before .before .before .before .before .before .before .before .before .before .before .before .args .env in rw (sym (c .before .before .before .before .before .before .before .before .before .before .before .before .var-judged .ensures) ∙ c .before .before .before .before .before .before .before .before .before .before .k .given .1) (rw (c .before .before .before .before .before .before .before .enum-told2 .given .1) (rw (sym (c .before .before .before .before .before .before .zero-offset .ensures) ∙ c .before .before .before .before .before .if1 .taken) (rw (sym (c .before .before .before .before .with-boxed .ensures), sym (c .before .before .before .with-entry .ensures), sym (c .before .before .with-boxed2 .ensures), sym (c .before .went .ensures L m Γ)) (c .jump-to .ensures L m Γ)))))  -- returns-3
+    (λ c. λ L m. let Γ = c .before .before .before .before .before .before .before .before .before .before .before .before .before .args .env in let here : c .before .before .with-boxed2 .result ≡ withBoxed (c .before .before .before .before .before .before .before .before .before .before .k .given .0 .1 .0) B.Block = c .before .before .with-boxed2 .ensures in rw (sym (c .before .before .before .before .before .before .before .before .before .before .before .before .var-judged .ensures) ∙ c .before .before .before .before .before .before .before .before .before .before .k .given .1) (rw (c .before .before .before .before .before .before .before .enum-told2 .given .1) (rw (sym (c .before .before .before .before .before .before .zero-offset .ensures) ∙ c .before .before .before .before .before .if1 .taken) (rw (sym (c .before .before .before .before .with-boxed .ensures), sym (c .before .before .before .with-entry .ensures), sym here, sym (c .before .went .ensures L m Γ)) (c .jump-to .ensures L m Γ)))))  -- returns-3
     (λ c. λ L m. let Γ = c .before .before .before .before .before .before .before .before .before .args .env in rw (sym (c .before .before .before .before .before .before .before .before .var-judged .ensures) ∙ c .before .before .before .before .before .before .k .given .1) (rw (c .before .before .before .enum-told2 .given .1) (rw (sym (c .before .before .zero-offset .ensures) ∙ c .before .if1 .left) (c .refused3 .ensures L m Γ)))))  -- returns-4

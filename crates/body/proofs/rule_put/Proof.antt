@@ -1,6 +1,8 @@
 -- `body::rule_put` meets its contract. Assumes nothing.
 use Rattle.typing.proofs.Laws.{after-of, tree-of}
-use mathlib.Core.Path.{sym}
+use Rattle.rules.specs.View.{treeOf, treeAt}
+use Rattle.rules.specs.Typing.{type}
+use mathlib.Core.Path.{_≡_, sym}
 use borrow.Author.Needs.{needs}
 use Rattle.body.proofs.rule_put.Statement.{statement}
 use Rattle.body.proofs.rule_put.Tie as tie
@@ -12,4 +14,4 @@ rule-put-spec =
     (λ c κs. search needs)  -- judge-at-requires
     (λ c κs. search needs)  -- judged-requires
     (λ c κs. search needs)  -- put-judged-requires
-    (λ c. λ L m Γ. rw (sym (tree-of _ _ _ _ _ _ _ (c .before .before .judge-at .ensures)), sym (after-of _ _ _ _ _ _ _ (c .before .before .judge-at .ensures)), sym (c .before .judged .ensures)) (c .put-judged .ensures L m Γ)))  -- returns
+    (λ c. λ L m Γ. let second : c .before .judged .result ≡ type _ _ _ (treeOf (treeAt _ 16 (c .before .before .judge-at .result .next))) = c .before .judged .ensures in rw (sym (tree-of _ _ _ _ _ _ _ (c .before .before .judge-at .ensures)), sym (after-of _ _ _ _ _ _ _ (c .before .before .judge-at .ensures)), sym second) (c .put-judged .ensures L m Γ)))  -- returns

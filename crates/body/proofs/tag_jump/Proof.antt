@@ -1,5 +1,8 @@
 -- `body::tag_jump` meets its contract. Assumes nothing.
-use mathlib.Core.Path.{sym}
+use Rattle.body.specs.Lines.{lineBy}
+use Rattle.rules.specs.Body.{goes}
+use mathlib.Core.Path.{_≡_, sym}
+use mathlib.Core.Bool.{true}
 use borrow.Author.Needs.{needs}
 use Rattle.body.proofs.tag_jump.Statement.{statement}
 use Rattle.body.proofs.tag_jump.Tie as tie
@@ -12,4 +15,4 @@ tag-jump-spec =
     (λ c κs. search needs)  -- with-entry-requires
     (λ c κs. search needs)  -- went-requires
     (λ c κs. search needs)  -- jump-to-requires
-    (λ c. λ L m. let Γ = c .before .before .before .before .args .env in rw (sym (c .before .before .before .with-tag .ensures), sym (c .before .before .with-entry .ensures), sym (c .before .went .ensures L m Γ)) (c .jump-to .ensures L m Γ)))  -- returns
+    (λ c. λ L m. let Γ = c .before .before .before .before .args .env in let falls : lineBy L m Γ (c .before .went .result) ≡ goes true Γ = c .before .went .ensures L m Γ in rw (sym (c .before .before .before .with-tag .ensures), sym (c .before .before .with-entry .ensures), sym falls) (c .jump-to .ensures L m Γ)))  -- returns
