@@ -1,4 +1,4 @@
--- The definitions that this crate's contracts name, and the laws about them.
+-- What the definitions answer to the texts of the rulings, by computation. Assumes nothing.
 pub mod Cases
 pub mod Glue
 pub mod Joined
