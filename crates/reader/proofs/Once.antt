@@ -1,7 +1,9 @@
 -- Lines with expressions: read at once, or refused by their shape or a limit; and what of a line counts for those after it. Assumes nothing.
+use mathlib.Core.Logic.{⊎-elim}
+use native.Mathlib.Nat.{eq-zero-or-pos}
 use native.Mathlib.Omega.{arith}
 use borrow.Author.Tests.{eq-eqb, ne-eqb}
-use Rattle.rules.specs.Prelude.{ℕ, _+_, _≤_, _<_, Bool, true, false, List, _≡_, refl, sym, ap, subst, _∙_, eqb, length}
+use Rattle.rules.specs.Prelude.{ℕ, _+_, _-_, _≤_, _<_, Bool, true, false, List, _≡_, refl, sym, ap, subst, _∙_, eqb, length}
 use Rattle.rules.specs.declared.Count.{Count}
 use Rattle.rules.specs.declared.Next.{Next}
 use Rattle.rules.specs.declared.Next.the-variants as N
@@ -22,15 +24,17 @@ use Rattle.reader.proofs.Laws.{on-from, FitsLined}
 
 -- ---- keys
 
--- of the body lines without expressions `label=` is the last
-pub only-label : (k : ℕ) → Plain k → (k ≡ 7 → ⊥) → (k ≡ 9 → ⊥) → (k ≡ 10 → ⊥) → (k ≡ 11 → ⊥) → k ≡ 13
+-- of the body lines without expressions that are no labels `ifint=` is the last
+pub only-ifint : (k : ℕ) → Plain k → (k ≡ 7 → ⊥) → (k ≡ 9 → ⊥) → (k ≡ 10 → ⊥) → k ≡ 11
 unfolding hasExpr keyOf
-only-label k (h, (l, e)) a b d f =
+only-ifint k (h, (l, e)) a b d =
     let differs : (j : ℕ) → hasExpr (keyOf j) ≡ true → k ≡ j → ⊥ = λ j q z. none (sym q ∙ ap (λ (x : ℕ). hasExpr (keyOf x)) (sym z) ∙ e) in
     let m : 8 ≤ k = on-from 7 k (on-from 6 k (on-from 5 k h (differs 5 refl)) (differs 6 refl)) a in
-    let n : 12 ≤ k = on-from 11 k (on-from 10 k (on-from 9 k (on-from 8 k m (differs 8 refl)) b) d) f in
-    let o : 13 ≤ k = on-from 12 k n (differs 12 refl) in
-    omega arith
+    let n : 11 ≤ k = on-from 10 k (on-from 9 k (on-from 8 k m (differs 8 refl)) b) d in
+    ⊎-elim (λ z. omega arith) (λ p. let z : k ≡ 12 = omega arith in absurd (differs 12 refl z)) (eq-zero-or-pos (k - 11))
+
+pub no-label : (k : ℕ) → k ≤ 13 → (k ≡ 13 → ⊥) → k < 13
+no-label k h n = ⊎-elim (λ e. let q : k ≡ 13 = omega arith in absurd (n q)) (λ p. omega arith) (eq-zero-or-pos (13 - k))
 
 -- ---- a line for those after it
 

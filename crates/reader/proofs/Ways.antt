@@ -13,9 +13,9 @@ use Rattle.rules.specs.When.{when}
 use Rattle.rules.specs.Answers.{answer, accepted}
 use Rattle.rules.specs.Text.{TextOut, stopped, Lined, lined, limited, shaped, keyed, lineAt, ended, andLine, linesFrom}
 use Rattle.rules.specs.Text.Words.{byteAt, valueOf, nextOf, plainAt}
-use Rattle.rules.specs.Text.Shape.{psiAt, boxedAt, offsetAt, tagAt, keyOf, inOrder, lineShape}
+use Rattle.rules.specs.Text.Shape.{psiAt, keyOf, inOrder, lineShape}
 use Rattle.rules.specs.Text.Layout.{Tables, withVars, withLabels, oneVar, sized, nothing}
-use Rattle.rules.specs.Text.Fill.{Filled, filled, putVar, addVar, Fields, fields, putField, moreFields, fillFields, fillProducts, addRow, fillType, plainLine, putEntry, fillEntries, addLabel, fillLabel, oneMore, fillLine}
+use Rattle.rules.specs.Text.Fill.{Filled, filled, putVar, addVar, Fields, fields, putField, moreFields, fillFields, fillProducts, addRow, fillType, plainLine, fillEntries, addLabel, fillLabel, oneMore, fillLine}
 use Rattle.reader.specs.Read.{settled, closed, readOver}
 use Rattle.reader.proofs.Once.{line-settled}
 
@@ -103,13 +103,6 @@ module _ (s : List ℕ) (at : ℕ) (c : Count) (t : Tables) where
   unfolding fillLabel
   label-full h = rw (le-ltb (c .labels) 64)
 
-  pub plain-labels : (kind l v w : ℕ) {ok : Bool} {d : Count} {u : Tables} → filled ok d u ≡ plainLine c t kind l v w → d .labels ≡ c .labels
-  unfolding plainLine
-  plain-labels kind l v w e = ap labels e
-    where
-      labels : Filled → ℕ
-      labels (filled ok d u) = d .labels
-
   pub in-body : (k j : ℕ) (x : Filled) → k ≡ j → c .lines < 512 → fillLine s (keyOf j) at c t ≡ oneMore c t x → x ≡ fillLine s (keyOf k) at c t
   in-body k j x e h q = sym (ap (λ (n : ℕ). fillLine s (keyOf n) at c t) e ∙ q ∙ rw (lt-ltb (c .lines) 512))
 
@@ -148,20 +141,6 @@ module _ (s : List ℕ) (at : ℕ) (c : Count) (t : Tables) where
 
     pub ordered : (start : ℕ) {x : Next} → inOrder (c .part) k ≡ true → x ≡ lineShape s (c .vars) (keyOf k) at → keyed s start c t (Got k at) ≡ shaped s k at c t x
     ordered start e q = rw (e, q)
-
-pub one-entry : (s : List ℕ) (l more v : ℕ) (L : List ℕ) (at : ℕ) {b i g : Reading} {m n : ℕ} → 0 < more
-    → b ≡ boxedAt s at → m ≡ nextOf b + 1 → i ≡ offsetAt s m → n ≡ nextOf i + 1 → g ≡ tagAt s n
-    → fillEntries s l more v L at ≡ fillEntries s l (more - 1) (v + 1) (putEntry L l v (valueOf b) (valueOf i) (valueOf g)) (nextOf g + 1)
-unfolding fillEntries
-one-entry s l zero v L at h b m i n g = absurd (omega arith)
-one-entry s l (suc more) v L at h b m i n g =
-    let w = i ∙ ap (offsetAt s) (m ∙ ap (λ (r : Reading). nextOf r + 1) b) in
-    let x = g ∙ ap (tagAt s) (n ∙ ap (λ (r : Reading). nextOf r + 1) w) in
-    rw (b, w, x, sub-one (suc more))
-
-pub no-entry : (s : List ℕ) (l more v : ℕ) (L : List ℕ) (at : ℕ) → more ≡ 0 → fillEntries s l more v L at ≡ L
-unfolding fillEntries
-no-entry s l more v L at e = rw e
 
 -- ---- the text, whole
 

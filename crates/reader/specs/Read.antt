@@ -56,9 +56,9 @@ pub record Room (s : List ℕ) (at : ℕ) (c : Count) : Type 0 where
   pub ready : Ready s at c
   pub room : c .lines < limits .lines
 
--- a line of the body without expressions
+-- a line of the body without expressions, and no label
 abbrev pub Plain : ℕ → Type 0
-Plain k = (5 ≤ k) × ((k ≤ 13) × (hasExpr (keyOf k) ≡ false))
+Plain k = (5 ≤ k) × ((k < 13) × (hasExpr (keyOf k) ≡ false))
 
 -- ---- a line
 

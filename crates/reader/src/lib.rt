@@ -1,5 +1,5 @@
 // A glue text read into the tables of a program: each line's shape first, then its limits, with its numbers written on the way.
-// A line with expressions is read at once, and looked at for its shape alone only if that fails.
+// A line with expressions, and a label, is read at once, and looked at for its shape alone only if that fails.
 use once::line_once;
 use program::clear;
 use program::put_entry;
@@ -46,6 +46,7 @@ ghost use Rattle.rules.specs.Text.Layout as layout;
 ghost use Rattle.rules.specs.Text.Fill as fills;
 ghost use Rattle.program.specs.Lines.{tablesOf};
 ghost use Rattle.once.specs.Once.{hasExpr};
+ghost use Rattle.reader.specs.Labels.{entered, tagOnce, offsetOnce, entryOnce, entriesOnce};
 ghost use Rattle.reader.specs.Read.{Placed, Near, Worded, Within, Ready, Room, Plain, Late, settled, closed, readOver, Holds};
 
 // As many fields as a row may have, and the one after these, which is refused.
@@ -396,51 +397,6 @@ fn fill_test(kind: u32, s: &[u8], at: usize, c: Count, body: &mut [u32; 2560]) -
     plain_line(c, kind, l.value, v.value, w.value, body)
 }
 
-// One turn an entry.
-fn fill_entries(s: &[u8], l: usize, count: usize, from: usize, labels: &mut [u64; 6208])
-    requires { ⌜ Placed (now s) from × (count ≤ limits .variables) ⌝ }
-    ensures { λ u. ⌜ now (labels .exit) ≡ fills.fillEntries (now (s .entry)) l count 0 (now (labels .entry)) from ⌝ }
-{
-    let mut more = count;
-    let mut v = 0;
-    let mut at = from;
-    while 0 < more {
-        more -= 1;
-        let b = boxed_at(s, at);
-        let i = offset_at(s, past(b));
-        let g = tag_at(s, past(i));
-        put_entry(labels, l, v, value_of(b), value_of(i), value_of(g));
-        at = past(g);
-        v += 1;
-    }
-}
-
-fn fill_label(
-    s: &[u8],
-    at: usize,
-    c: Count,
-    labels: &mut [u64; 6208],
-    body: &mut [u32; 2560],
-) -> Fill
-    requires { ⌜ Room (now s) at c ⌝ }
-    ensures { λ r. ⌜ ((t : layout.Tables) → fills.filled (r .ok) (r .count) (layout.withBody (layout.withLabels t (now (labels .exit))) (now (body .exit))) ≡ fills.fillLabel (now (s .entry)) at c (layout.withBody (layout.withLabels t (now (labels .entry))) (now (body .entry)))) ⌝ }
-{
-    if Limits::LABELS <= c.labels {
-        return Fill {
-            ok: false,
-            count: c,
-        };
-    }
-    put_label_line(labels, c.labels, c.lines as u64 + 1);
-    fill_entries(s, c.labels, c.vars, at, labels);
-    let f = plain_line(c, 9, c.labels as u32, 0, 0, body);
-    let d = f.count;
-    Fill {
-        ok: f.ok,
-        count: one_label(d),
-    }
-}
-
 // ---- a line by its key
 
 fn header_line(
@@ -462,27 +418,19 @@ fn header_line(
     }
 }
 
-fn body_line(
-    s: &[u8],
-    k: u64,
-    at: usize,
-    c: Count,
-    labels: &mut [u64; 6208],
-    body: &mut [u32; 2560],
-) -> Fill
+fn body_line(s: &[u8], k: u64, at: usize, c: Count, body: &mut [u32; 2560]) -> Fill
     requires { ⌜ Room (now s) at c × Plain k ⌝ }
-    ensures { λ r. ⌜ ((t : layout.Tables) → fills.filled (r .ok) (r .count) (layout.withBody (layout.withLabels t (now (labels .exit))) (now (body .exit))) ≡ fills.fillLine (now (s .entry)) (shapes.keyOf k) at c (layout.withBody (layout.withLabels t (now (labels .entry))) (now (body .entry)))) ⌝ }
+    ensures { λ r. ⌜ ((t : layout.Tables) → fills.filled (r .ok) (r .count) (layout.withBody t (now (body .exit))) ≡ fills.fillLine (now (s .entry)) (shapes.keyOf k) at c (layout.withBody t (now (body .entry)))) ⌝ }
 {
     match k {
         7 => fill_goto(s, at, c, body),
         9 => fill_ifimm(s, at, c, body),
         10 => fill_test(6, s, at, c, body),
-        11 => fill_test(7, s, at, c, body),
-        _ => fill_label(s, at, c, labels, body),
+        _ => fill_test(7, s, at, c, body),
     }
 }
 
-// A line without expressions.
+// A line without expressions, and no label.
 fn fill_line(
     s: &[u8],
     k: u64,
@@ -490,11 +438,10 @@ fn fill_line(
     c: Count,
     rows: &mut [u32; 17536],
     vars: &mut [u32; 96],
-    labels: &mut [u64; 6208],
     body: &mut [u32; 2560],
 ) -> Fill
-    requires { ⌜ Ready (now s) at c × ((1 ≤ k) × ((k ≤ 13) × (hasExpr (shapes.keyOf k) ≡ false))) ⌝ }
-    ensures { λ r. ⌜ ((Z N : List ℕ) → fills.filled (r .ok) (r .count) (tablesOf Z N (now (rows .exit)) (now (vars .exit)) (now (labels .exit)) (now (body .exit))) ≡ fills.fillLine (now (s .entry)) (shapes.keyOf k) at c (tablesOf Z N (now (rows .entry)) (now (vars .entry)) (now (labels .entry)) (now (body .entry)))) ⌝ }
+    requires { ⌜ Ready (now s) at c × ((1 ≤ k) × ((k < 13) × (hasExpr (shapes.keyOf k) ≡ false))) ⌝ }
+    ensures { λ r. ⌜ ((Z N L : List ℕ) → fills.filled (r .ok) (r .count) (tablesOf Z N (now (rows .exit)) (now (vars .exit)) L (now (body .exit))) ≡ fills.fillLine (now (s .entry)) (shapes.keyOf k) at c (tablesOf Z N (now (rows .entry)) (now (vars .entry)) L (now (body .entry)))) ⌝ }
 {
     if k < 5 {
         return header_line(s, k, at, c, rows, vars);
@@ -505,7 +452,7 @@ fn fill_line(
             count: c,
         };
     }
-    body_line(s, k, at, c, labels, body)
+    body_line(s, k, at, c, body)
 }
 
 // ---- a line, whole
@@ -535,7 +482,7 @@ fn limited(k: u64, next: usize, f: Fill) -> Lined
     }
 }
 
-// A line without expressions whose shape is right up to n.
+// A line without expressions, and no label, whose shape is right up to n.
 fn shaped_line(
     s: &[u8],
     k: u64,
@@ -544,20 +491,19 @@ fn shaped_line(
     c: Count,
     rows: &mut [u32; 17536],
     vars: &mut [u32; 96],
-    labels: &mut [u64; 6208],
     body: &mut [u32; 2560],
 ) -> Lined
-    requires { ⌜ Ready (now s) at c × ((1 ≤ k) × ((k ≤ 13) × (hasExpr (shapes.keyOf k) ≡ false))) ⌝ }
-    ensures { λ r. ⌜ ((Z N : List ℕ) → texts.lined (r .answer) (r .next) (r .count) (tablesOf Z N (now (rows .exit)) (now (vars .exit)) (now (labels .exit)) (now (body .exit))) ≡ texts.shaped (now (s .entry)) k at c (tablesOf Z N (now (rows .entry)) (now (vars .entry)) (now (labels .entry)) (now (body .entry))) (Next.At n)) ⌝ }
+    requires { ⌜ Ready (now s) at c × ((1 ≤ k) × ((k < 13) × (hasExpr (shapes.keyOf k) ≡ false))) ⌝ }
+    ensures { λ r. ⌜ ((Z N L : List ℕ) → texts.lined (r .answer) (r .next) (r .count) (tablesOf Z N (now (rows .exit)) (now (vars .exit)) L (now (body .exit))) ≡ texts.shaped (now (s .entry)) k at c (tablesOf Z N (now (rows .entry)) (now (vars .entry)) L (now (body .entry))) (Next.At n)) ⌝ }
 {
     if byte_at(s, n) != 10 {
         return refused(2, n, c);
     }
-    let f = fill_line(s, k, at, c, rows, vars, labels, body);
+    let f = fill_line(s, k, at, c, rows, vars, body);
     limited(k, n + 1, f)
 }
 
-// A line with expressions that could not be read at once: its shape is wrong (2), or it passes a limit (3).
+// A line that could not be read at once: its shape is wrong (2), or it passes a limit (3).
 fn late(s: &[u8], k: u64, at: usize, c: Count) -> Lined
     ensures { λ r. ⌜ ((t u : layout.Tables) → Late (now (s .entry)) k at c t → settled (texts.lined (r .answer) (r .next) (r .count) u) ≡ settled (texts.shaped (now (s .entry)) k at c t (shapes.lineShape (now (s .entry)) (c .vars) (shapes.keyOf k) at))) ⌝ }
 {
@@ -596,6 +542,123 @@ fn expr_line(
     }
 }
 
+// ---- labels: an entry is written as soon as it is read, and a line feed stands after the last one
+
+// T
+fn tag_once(
+    s: &[u8],
+    l: usize,
+    v: usize,
+    b: u64,
+    i: u64,
+    at: usize,
+    labels: &mut [u64; 6208],
+) -> Next
+    ensures { λ r. ⌜ entered r (now (labels .exit)) ≡ tagOnce (now (s .entry)) l v b i at (now (labels .entry)) ⌝ }
+{
+    match tag_at(s, at) {
+        Reading::Bad(p) => Next::Bad(p),
+        Reading::Got(t, n) => {
+            put_entry(labels, l, v, b, i, t);
+            Next::At(n)
+        }
+    }
+}
+
+// I,T
+fn offset_once(s: &[u8], l: usize, v: usize, b: u64, at: usize, labels: &mut [u64; 6208]) -> Next
+    ensures { λ r. ⌜ entered r (now (labels .exit)) ≡ offsetOnce (now (s .entry)) l v b at (now (labels .entry)) ⌝ }
+{
+    match offset_at(s, at) {
+        Reading::Bad(p) => Next::Bad(p),
+        Reading::Got(i, n) => {
+            if byte_at(s, n) != 44 {
+                return Next::Bad(n);
+            }
+            tag_once(s, l, v, b, i, n + 1, labels)
+        }
+    }
+}
+
+// B,I,T
+fn entry_once(s: &[u8], l: usize, v: usize, at: usize, labels: &mut [u64; 6208]) -> Next
+    ensures { λ r. ⌜ entered r (now (labels .exit)) ≡ entryOnce (now (s .entry)) l v at (now (labels .entry)) ⌝ }
+{
+    match boxed_at(s, at) {
+        Reading::Bad(p) => Next::Bad(p),
+        Reading::Got(b, n) => {
+            if byte_at(s, n) != 44 {
+                return Next::Bad(n);
+            }
+            offset_once(s, l, v, b, n + 1, labels)
+        }
+    }
+}
+
+// One turn an entry of label l.
+fn entries_once(s: &[u8], l: usize, vars: usize, from: usize, labels: &mut [u64; 6208]) -> Next
+    requires { ⌜ vars ≤ limits .variables ⌝ }
+    ensures { λ r. ⌜ entered r (now (labels .exit)) ≡ entriesOnce (now (s .entry)) l vars 0 from (now (labels .entry)) ⌝ }
+{
+    let mut more = vars;
+    let mut v = 0;
+    let mut at = from;
+    while 0 < more {
+        more -= 1;
+        match entry_once(s, l, v, at, labels) {
+            Next::Bad(p) => {
+                return Next::Bad(p);
+            }
+            Next::At(n) => {
+                if more == 0 {
+                    return Next::At(n);
+                }
+                if byte_at(s, n) != 32 {
+                    return Next::Bad(n);
+                }
+                at = n + 1;
+                v += 1;
+            }
+        }
+    }
+    Next::At(at)
+}
+
+// A label. Its limits are known before its entries are read, and it is looked at for its shape alone only if it passes one.
+fn label_line(
+    s: &[u8],
+    at: usize,
+    c: Count,
+    labels: &mut [u64; 6208],
+    body: &mut [u32; 2560],
+) -> Lined
+    requires { ⌜ Within c ⌝ }
+    ensures { λ r. ⌜ ((t : layout.Tables) → settled (texts.lined (r .answer) (r .next) (r .count) (layout.withBody (layout.withLabels t (now (labels .exit))) (now (body .exit)))) ≡ settled (texts.shaped (now (s .entry)) 13 at c (layout.withBody (layout.withLabels t (now (labels .entry))) (now (body .entry))) (shapes.lineShape (now (s .entry)) (c .vars) (shapes.keyOf 13) at))) ⌝ }
+{
+    if Limits::LINES <= c.lines {
+        return late(s, 13, at, c);
+    }
+    if Limits::LABELS <= c.labels {
+        return late(s, 13, at, c);
+    }
+    put_label_line(labels, c.labels, c.lines as u64 + 1);
+    let e = entries_once(s, c.labels, c.vars, at, labels);
+    match e {
+        Next::Bad(p) => refused(2, p, c),
+        Next::At(n) => {
+            if byte_at(s, n) != 10 {
+                return refused(2, n, c);
+            }
+            put_line(body, c.lines, 9, c.labels as u32, 0, 0, 0);
+            Lined {
+                answer: 0,
+                next: n + 1,
+                count: in_part(one_label(one_line(c, c.nodes)), part_of(13)),
+            }
+        }
+    }
+}
+
 fn has_expr(k: u64) -> bool
     ensures { λ b. ⌜ b ≡ hasExpr (shapes.keyOf k) ⌝ }
 {
@@ -630,9 +693,12 @@ fn keyed_line(
     if has_expr(k) {
         return expr_line(s, k, at, c, nodes, body);
     }
+    if k == 13 {
+        return label_line(s, at, c, labels, body);
+    }
     let x = line_shape(s, c.vars, k, at);
     match x {
-        Next::At(n) => shaped_line(s, k, at, n, c, rows, vars, labels, body),
+        Next::At(n) => shaped_line(s, k, at, n, c, rows, vars, body),
         Next::Bad(p) => refused(2, p, c),
     }
 }

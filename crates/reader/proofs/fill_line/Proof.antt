@@ -11,7 +11,7 @@ fill-line-spec =
     tie.close
     (tie.spec
     (λ c κs. search needs)  -- header-line-requires
-    (λ c. let a = c .before .before .before .before .before .args in λ Z N. c .header-line .ensures (tablesOf Z N (a .rows .now) (a .vars .now) (a .labels .now) (a .body .now)))  -- returns
-    (λ c. let a = c .before .before .before .before .args in λ Z N. sym (too-many (a .s .now) (a .at) (a .c) (tablesOf Z N (a .rows .now) (a .vars .now) (a .labels .now) (a .body .now)) (a .k) (c .before .before .if1 .left) (c .if2 .taken)))  -- returns-2
-    (λ c κs. let p = c .before .before .before .before .before .before .pre in (record { ready = p .0; room = c .before .before .if2 .left }, (c .before .before .before .before .if1 .left, p .1 .1)))  -- body-line-requires
-    (λ c. let a = c .before .before .before .before .before .before .before .args in λ Z N. c .body-line .ensures (tablesOf Z N (a .rows .now) (a .vars .now) (a .labels .now) (a .body .now))))  -- returns-3
+    (λ c. let a = c .before .before .before .before .before .args in λ Z N L. c .header-line .ensures (tablesOf Z N (a .rows .now) (a .vars .now) L (a .body .now)))  -- returns
+    (λ c. let a = c .before .before .before .before .args in λ Z N L. sym (too-many (a .s .now) (a .at) (a .c) (tablesOf Z N (a .rows .now) (a .vars .now) L (a .body .now)) (a .k) (c .before .before .if1 .left) (c .if2 .taken)))  -- returns-2
+    (λ c κs. let p = c .before .before .before .before .before .pre in (record { ready = p .0; room = c .before .if2 .left }, (c .before .before .before .if1 .left, p .1 .1)))  -- body-line-requires
+    (λ c. let a = c .before .before .before .before .before .before .args in λ Z N L. c .body-line .ensures (tablesOf Z N (a .rows .now) (a .vars .now) L (a .body .now))))  -- returns-3
