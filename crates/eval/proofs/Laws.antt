@@ -5,25 +5,25 @@ use borrow.Author.Tests.{lt-ltb, ltb-true}
 use mathlib.Core.Path.{_≡_, refl, sym, ap, ap₂, _∙_}
 use mathlib.Core.Bool.{Bool, true, false, _&&_}
 use mathlib.Core.List.{List}
-use Prim.Native.Nat.{ℕ, _+_, _/_, _%_, _<_, _≤_}
+use Prim.Native.Nat.{ℕ, _<_, _≤_}
 use lib.Dec.{ltb}
 use lib.IntN.{ℤ, pos, negsuc}
-use lib.ListN.{length, getD}
+use lib.ListN.{length}
 use Rattle.rules.specs.declared.Datum.the-variants.{Place}
 use Rattle.rules.specs.declared.Given.{Given}
 use Rattle.rules.specs.declared.Given.the-variants.{Stuck, Has}
 use Rattle.rules.specs.When.{need}
-use Rattle.rules.specs.View.{none, litF, varF, fetchF, intF, valF, stepF, calc, formOf, treeOf, treeAt}
+use Rattle.rules.specs.View.{none, litF, varF, fetchF, intF, valF, stepF, calc, treeOf, treeAt}
 use Rattle.rules.specs.Program.{Rows}
 use Rattle.rules.specs.Machine.{Store, cellsIn, inside, cellAt, evArith, evVal, evInt, evFetch, moved, evStep, eval}
 use Rattle.number.specs.declared.Index.{Index}
 use Rattle.number.specs.declared.Index.the-variants.{At, Outside}
 use Rattle.number.specs.Places.{indexIn, index-at, index-out}
 use Rattle.storage.proofs.Laws.{cell-out, block-with}
-use Rattle.program.specs.Nodes.{arity, afterOf}
-use Rattle.program.proofs.Walk.{Folds, ends-leaf}
+use Rattle.program.specs.Nodes.{afterOf}
+use Rattle.program.proofs.Walk.{Folds}
 use Rattle.eval.specs.declared.Gave.{Gave}
-use Rattle.eval.specs.Walk.{form, gave, gaveAt}
+use Rattle.eval.specs.Walk.{form, gaveAt}
 
 -- ---- cells and places
 
@@ -77,16 +77,6 @@ folds ρ σ δ intF a p q x y ex ey = ap evInt (sym (ex (omega lin)))
 folds ρ σ δ valF a p q x y ex ey = ap (evVal ρ a) (sym (ex (omega lin)))
 folds ρ σ δ stepF a p q x y ex ey = ap₂ (evStep σ) (sym (ex (omega lin))) (sym (ey (omega lin)))
 folds ρ σ δ (calc o) a p q x y ex ey = ap₂ (evArith o) (sym (ex (omega lin))) (sym (ey (omega lin)))
-
--- what a leaf gives, by the numbers of its node however they were read
-pub leaf-read : (ρ : Rows) (σ : Store) (δ : List Given) (g : Given) (o a p b : ℕ) → o ≡ p → a ≡ b → g ≡ form ρ σ δ (formOf o) a Stuck Stuck → g ≡ form ρ σ δ (formOf p) b Stuck Stuck
-leaf-read ρ σ δ g o a p b eo ea e = e ∙ ap₂ (λ (x y : ℕ). form ρ σ δ (formOf x) y Stuck Stuck) eo ea
-
--- what a node without operands gives is what its tree gives, at any depth at which it is there
-pub leaf-ends : (ρ : Rows) (σ : Store) (δ : List Given) (N : List ℕ) (d k : ℕ) (r : Gave) (g : Given) → (d ≡ 0 → ⊥) × (k < 4096) × (arity (formOf (getD N k 0 / 4294967296)) ≡ 0) → r ≡ gave g (k + 1)
-    → g ≡ form ρ σ δ (formOf (getD N k 0 / 4294967296)) (getD N k 0 % 4294967296) Stuck Stuck → r ≡ gaveAt ρ σ δ N d k
-unfolding gaveAt
-leaf-ends ρ σ δ N d k r g h er eg = er ∙ ends-leaf (eval ρ σ δ) gave N d k (form ρ σ δ) (folds ρ σ δ) _ _ _ (h .0) (h .1) refl refl refl g Stuck Stuck (h .2) eg
 
 -- what a walk gave is what the tree gives, and the node after it
 module _ (ρ : Rows) (σ : Store) (δ : List Given) (N : List ℕ) (d k : ℕ) (g : Gave) (e : g ≡ gaveAt ρ σ δ N d k) where

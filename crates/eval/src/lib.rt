@@ -204,23 +204,6 @@ fn gives(g: Given, n: usize) -> Gave
     Gave { given: g, next: n }
 }
 
-// Whether a number or a variable stands at a node, and is there at that depth.
-fn is_leaf(nodes: &[u64; 4096], depth: usize, at: usize) -> bool
-    ensures { λ b. ⌜ (b ≡ true → (depth ≡ 0 → ⊥) × (at < 4096) × (arity (formOf (getD (now (nodes .entry)) at 0 / 4294967296)) ≡ 0)) ⌝ }
-{
-    if depth == 0 {
-        return false;
-    }
-    if Limits::NODES <= at {
-        return false;
-    }
-    match program::operation(nodes, at) {
-        1 => true,
-        2 => true,
-        _ => false,
-    }
-}
-
 // What a node without operands gives.
 fn leaf_at(size: &[u32; 6], nodes: &[u64; 4096], vals: &[u64; 32], at: usize) -> Given
     requires { ⌜ arity (formOf (getD (now nodes) at 0 / 4294967296)) ≡ 0 ⌝ }
@@ -244,7 +227,7 @@ fn operand(
 ) -> Gave
     ensures { λ g. ⌜ ((R D : List ℕ) → g ≡ gaveAt (rowsFrom (now (size .entry)) R) (storeOf (now (store .entry)) (now (heads .entry)) (now (cells .entry))) (valsOf (length (varsFrom (now (size .entry)) D)) (now (vals .entry))) (now (nodes .entry)) depth at) ⌝ }
 {
-    if is_leaf(nodes, depth, at) {
+    if program::is_leaf(nodes, depth, at) {
         let g = leaf_at(size, nodes, vals, at);
         return gives(g, at + 1);
     }
@@ -305,7 +288,7 @@ pub fn given_at(
 ) -> Gave
     ensures { λ g. ⌜ ((R D : List ℕ) → g ≡ gaveAt (rowsFrom (now (size .entry)) R) (storeOf (now (store .entry)) (now (heads .entry)) (now (cells .entry))) (valsOf (length (varsFrom (now (size .entry)) D)) (now (vals .entry))) (now (nodes .entry)) 16 at) ⌝ }
 {
-    if is_leaf(nodes, Limits::DEPTH, at) {
+    if program::is_leaf(nodes, Limits::DEPTH, at) {
         return gives(leaf_at(size, nodes, vals, at), at + 1);
     }
     walk(size, nodes, vals, Limits::DEPTH, at, store, heads, cells)

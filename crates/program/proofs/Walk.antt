@@ -3,17 +3,19 @@
 use native.Mathlib.Omega.{arith as lin}
 use native.Mathlib.Decide.{decLt}
 use native.Mathlib.Numerals.{sub-one}
-use borrow.Author.Tests.{lt-ltb, le-ltb}
+use borrow.Author.Tests.{lt-ltb, le-ltb, ltb-true, eqb-true, eq-eqb, ne-eqb}
 use mathlib.Core.Path.{_≡_, refl, sym, ap, ap₂, subst, _∙_}
+use mathlib.Core.Bool.{Bool, true, false, _&&_, _||_}
 use mathlib.Core.Logic.{_⊎_, inl, inr, ⊎-elim}
 use mathlib.Core.List.{List, [], _∷_}
 use Prim.Native.Nat.{ℕ, zero, suc, _+_, _-_, _/_, _%_, _<_, _≤_}
+use lib.Dec.{ltb, eqb}
 use lib.ListN.{length, getD, List·getD-eq-default}
 use Rattle.rules.specs.declared.Op.the-variants as O
 use Rattle.rules.specs.Numbers.{numCode}
 use Rattle.rules.specs.Program.{Expr, bad, lit, var, arith, val, int, fetch, step, Stmt}
 use Rattle.rules.specs.View.{Form, none, litF, varF, fetchF, intF, valF, stepF, calc, formOf, Walked, walked, one, two, treeOf, treeNode, treeAt, withOne, withTwo, noW, setW, putW, gotoW, ifW, ifimmW, iftagW, ifintW, returnW, labelW, wayOf}
-use Rattle.program.specs.Nodes.{arity, afterOf}
+use Rattle.program.specs.Nodes.{arity, afterOf, leafAt}
 
 -- ---- numbers that name nothing
 
@@ -90,6 +92,55 @@ two-by op (suc (suc n)) z i s = s
 pub two-rest : (op : ℕ) → NoneOn 5 6 op → (arity (formOf op) ≡ 0 → ⊥) × (arity (formOf op) ≡ 1 → ⊥) → ⊥
 two-rest op h q = let s = two-by op (arity (formOf op)) (q .0) (q .1) (span op) in omega (lin, past 5 6 op h (s .0), s .1)
 
+-- ---- nodes that are a tree by themselves
+
+module _ (N : List ℕ) (d k : ℕ) where
+  abbrev opAt : ℕ
+  opAt = getD N k 0 / 4294967296
+
+  -- for the code: by the depth, the place and the operation
+  pub not-deep : d ≡ 0 → false ≡ leafAt N d k
+  unfolding leafAt
+  not-deep e = rw e refl
+
+  pub not-past : (d ≡ 0 → ⊥) → 4096 ≤ k → false ≡ leafAt N d k
+  unfolding leafAt
+  not-past z h = rw (lt-ltb 0 d (omega (lin, z)), le-ltb k 4096 h) refl
+
+  module _ (z : d ≡ 0 → ⊥) (h : k < 4096) {o : ℕ} (eo : o ≡ opAt) where
+    by-operation : leafAt N d k ≡ (eqb o 1 || eqb o 2)
+    unfolding leafAt
+    by-operation = rw (lt-ltb 0 d (omega (lin, z)), lt-ltb k 4096 h, eo) refl
+
+    pub leaf-number : o ≡ 1 → true ≡ leafAt N d k
+    leaf-number e = sym (by-operation ∙ rw e refl)
+
+    pub leaf-variable : o ≡ 2 → true ≡ leafAt N d k
+    leaf-variable e = sym (by-operation ∙ rw e refl)
+
+    pub leaf-none : NoneTo 2 o → false ≡ leafAt N d k
+    leaf-none n = sym (by-operation ∙ rw (ne-eqb o 1 (n .0 .1), ne-eqb o 2 (n .1)) refl)
+
+  one-or-two : (o : ℕ) → (eqb o 1 || eqb o 2) ≡ true → arity (formOf o) ≡ 0
+  unfolding formOf
+  one-or-two o e = by (eqb o 1) (eqb o 2) refl refl e
+    where
+      by : (a b : Bool) → eqb o 1 ≡ a → eqb o 2 ≡ b → (a || b) ≡ true → arity (formOf o) ≡ 0
+      by true b p q h = rw (eqb-true o 1 p) refl
+      by false true p q h = rw (eqb-true o 2 q) refl
+      by false false p q h = let x : _≡_ {A = ℕ} 0 1 = cc in absurd (omega lin)
+
+  -- for callers
+  pub leaf-there : {b : Bool} → b ≡ leafAt N d k → b ≡ true → (d ≡ 0 → ⊥) × (k < 4096) × (arity (formOf opAt) ≡ 0)
+  unfolding leafAt
+  leaf-there eb e = by (ltb 0 d) (ltb k 4096) (eqb opAt 1 || eqb opAt 2) refl refl refl (sym eb ∙ e)
+    where
+      by : (a b l : Bool) → ltb 0 d ≡ a → ltb k 4096 ≡ b → (eqb opAt 1 || eqb opAt 2) ≡ l → (a && (b && l)) ≡ true → (d ≡ 0 → ⊥) × (k < 4096) × (arity (formOf opAt) ≡ 0)
+      by true true true p q r h = ((λ z. omega (lin, z, ltb-true 0 d p)), ltb-true k 4096 q, one-or-two opAt r)
+      by true true false p q r h = let x : _≡_ {A = ℕ} 0 1 = cc in absurd (omega lin)
+      by true false l p q r h = let x : _≡_ {A = ℕ} 0 1 = cc in absurd (omega lin)
+      by false b l p q r h = let x : _≡_ {A = ℕ} 0 1 = cc in absurd (omega lin)
+
 -- ---- trees
 
 -- the expression of a form, from its argument and the expressions of its operands
@@ -159,6 +210,10 @@ by-two (suc (suc n)) k x y z i = refl
 abbrev pub Folds : {A : Type 0} → (Expr → A) → (Form → ℕ → A → A → A) → Type 0
 Folds {A} t form = (o : Form) (a : ℕ) (p q : Expr) (x y : A) → (0 < arity o → x ≡ t p) → (1 < arity o → y ≡ t q) → t (exprOf o a p q) ≡ form o a x y
 
+-- what a node gives, by its two numbers however they were read
+pub node-read : {A : Type 0} (form : Form → ℕ → A → A → A) {j x y : A} {o p a b : ℕ} → o ≡ p → a ≡ b → j ≡ form (formOf o) a x y → j ≡ form (formOf p) b x y
+node-read form {x = x} {y} eo ea e = e ∙ ap₂ (λ (o a : ℕ). form (formOf o) a x y) eo ea
+
 module _ {A F : Type 0} (t : Expr → A) (pack : A → ℕ → F) (N : List ℕ) (d k : ℕ) where
   abbrev whole : F
   whole = pack (t (treeOf (treeAt N d k))) (afterOf (treeAt N d k))
@@ -208,3 +263,8 @@ module _ {A F : Type 0} (t : Expr → A) (pack : A → ℕ → F) (N : List ℕ)
     ends-two j x y i m z₀ z₁ ex ei ey em e =
         ap₂ pack (e ∙ gives x y (λ p. ex) (λ p. ey ∙ ap (λ (l : ℕ). t (treeOf (treeAt N (d - 1) l))) ei))
         (goes m (em ∙ ap (λ (l : ℕ). afterOf (treeAt N (d - 1) l)) ei ∙ sym (by-two n (k + 1) (afterOf first) (afterOf second) z₀ z₁)))
+
+  -- a number or a variable, answered in place
+  pub ends-there : (form : Form → ℕ → A → A → A) → Folds t form → {b : Bool} → b ≡ leafAt N d k → b ≡ true → {r : F} {j : A} (x y : A)
+      → r ≡ pack j (k + 1) → j ≡ form (formOf (getD N k 0 / 4294967296)) (getD N k 0 % 4294967296) x y → r ≡ whole
+  ends-there form folds eb e {j = j} x y er ej = let h = leaf-there N d k eb e in er ∙ ends-leaf form folds _ _ _ (h .0) (h .1) refl refl refl j x y (h .2) ej

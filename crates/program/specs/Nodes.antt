@@ -1,5 +1,6 @@
--- Nodes in preorder: how many operands a form has, and the node after a tree. Assumes nothing.
-use Rattle.rules.specs.Prelude.{ℕ}
+-- Nodes in preorder: how many operands a form has, the node after a tree, and the nodes that are a tree by themselves. Assumes nothing.
+use Rattle.rules.specs.Prelude.{ℕ, _/_, Bool, _&&_, _||_, List, ltb, eqb, getD}
+use Rattle.rules.specs.Limits.{limits}
 use Rattle.rules.specs.View.{Form, none, litF, varF, fetchF, intF, valF, stepF, calc, Walked, walked}
 
 abbrev pub arity : Form → ℕ
@@ -14,3 +15,7 @@ arity (calc o) = 2
 
 abbrev pub afterOf : Walked → ℕ
 afterOf (walked x n) = n
+
+-- whether a number or a variable stands at node k, where the depth left is d
+unfoldable pub leafAt : List ℕ → ℕ → ℕ → Bool
+leafAt N d k = ltb 0 d && (ltb k (limits .nodes) && (eqb (getD N k 0 / 4294967296) 1 || eqb (getD N k 0 / 4294967296) 2))

@@ -10,7 +10,7 @@ ghost use Rattle.rules.specs.Text.Fill.{putVar, putField, putLine, putEntry};
 ghost use Rattle.rules.specs.View.{psiCode, kindCode, entryFrom, formOf, rowsFrom, varsFrom, labelsFrom, bodyFrom, program};
 ghost use Rattle.program.specs.Lines.{storedAt, isLabelLine, tablesOf};
 ghost use Rattle.program.specs.Labels.{envFrom, codesFrom};
-ghost use Rattle.program.specs.Nodes.{arity};
+ghost use Rattle.program.specs.Nodes.{arity, leafAt};
 use rules::Boxed;
 use rules::Entry;
 use rules::Env;
@@ -336,6 +336,23 @@ pub fn operands(op: u32) -> usize
         10 => 2,
         11 => 2,
         _ => 0,
+    }
+}
+
+// Whether a number or a variable stands at node k, where so much depth is left. A walk answers these in place, without a call that goes deeper.
+pub fn is_leaf(nodes: &[u64; 4096], depth: usize, k: usize) -> bool
+    ensures { λ b. ⌜ b ≡ leafAt (now (nodes .entry)) depth k ⌝ }
+{
+    if depth == 0 {
+        return false;
+    }
+    if Limits::NODES <= k {
+        return false;
+    }
+    match operation(nodes, k) {
+        1 => true,
+        2 => true,
+        _ => false,
     }
 }
 

@@ -2,8 +2,9 @@
 // Operands are judged left to right, each with the node after it; then the form itself.
 ghost use mathlib.Core.Path.{_≡_};
 ghost use mathlib.Core.List.{List};
-ghost use Prim.Native.Nat.{ℕ, _<_};
+ghost use Prim.Native.Nat.{ℕ, _/_, _%_, _<_};
 ghost use lib.IntN.{pos, _+ℤ_};
+ghost use lib.ListN.{getD};
 ghost use Rattle.rules.specs.Numbers.{num};
 ghost use Rattle.rules.specs.Program.{Rows, Var, entry};
 ghost use Rattle.rules.specs.View.{rowsFrom, varsFrom, formOf};
@@ -414,8 +415,45 @@ fn gives(j: Judged, n: usize) -> Found
     Found { judged: j, next: n }
 }
 
-// What the expression at a node is judged as, in the environment that the codes stand for. Past the depth and past the last node nothing is there (4).
-pub fn judge_at(
+// What a node without operands is judged as.
+fn leaf_at(
+    size: &[u32; 6],
+    vars: &[u32; 96],
+    nodes: &[u64; 4096],
+    codes: &[u64; 96],
+    count: usize,
+    at: usize,
+) -> Judged
+    requires { ⌜ arity (formOf (getD (now nodes) at 0 / 4294967296)) ≡ 0 ⌝ }
+    ensures { λ j. ⌜ ((ρ : Rows) → j ≡ form ρ (varsFrom (now (size .entry)) (now (vars .entry))) (envOf (now (codes .entry)) count) (formOf (getD (now (nodes .entry)) at 0 / 4294967296)) (getD (now (nodes .entry)) at 0 % 4294967296) (Judged.No 4) (Judged.No 4)) ⌝ }
+{
+    let op = program::operation(nodes, at);
+    let a = program::argument(nodes, at);
+    leaf(size, vars, codes, count, op, a)
+}
+
+// What an operand is judged as. Most operands are numbers and variables: these are judged in place, without a call that goes deeper.
+fn operand(
+    size: &[u32; 6],
+    rows: &[u32; 17536],
+    vars: &[u32; 96],
+    nodes: &[u64; 4096],
+    codes: &[u64; 96],
+    count: usize,
+    depth: usize,
+    at: usize,
+) -> Found
+    ensures { λ f. ⌜ f ≡ foundAt (rowsFrom (now (size .entry)) (now (rows .entry))) (varsFrom (now (size .entry)) (now (vars .entry))) (envOf (now (codes .entry)) count) (now (nodes .entry)) depth at ⌝ }
+{
+    if program::is_leaf(nodes, depth, at) {
+        let j = leaf_at(size, vars, nodes, codes, count, at);
+        return gives(j, at + 1);
+    }
+    walk(size, rows, vars, nodes, codes, count, depth, at)
+}
+
+// What the expression at a node is judged as. Past the depth and past the last node nothing is there (4).
+fn walk(
     size: &[u32; 6],
     rows: &[u32; 17536],
     vars: &[u32; 96],
@@ -440,14 +478,30 @@ pub fn judge_at(
     if n == 0 {
         return gives(leaf(size, vars, codes, count, op, a), first);
     }
-    let x = judge_at(size, rows, vars, nodes, codes, count, depth - 1, first);
+    let x = operand(size, rows, vars, nodes, codes, count, depth - 1, first);
     let v = x.judged;
     let second = x.next;
     if n == 1 {
         return gives(one_operand(size, rows, op, a, v), second);
     }
-    let y = judge_at(size, rows, vars, nodes, codes, count, depth - 1, second);
+    let y = operand(size, rows, vars, nodes, codes, count, depth - 1, second);
     let u = y.judged;
     let after = y.next;
     gives(two_operands(size, rows, op, v, u), after)
+}
+
+// What the expression at a node is judged as, in the environment that the codes stand for, and the node after it.
+pub fn judge_at(
+    size: &[u32; 6],
+    rows: &[u32; 17536],
+    vars: &[u32; 96],
+    nodes: &[u64; 4096],
+    codes: &[u64; 96],
+    count: usize,
+    depth: usize,
+    at: usize,
+) -> Found
+    ensures { λ f. ⌜ f ≡ foundAt (rowsFrom (now (size .entry)) (now (rows .entry))) (varsFrom (now (size .entry)) (now (vars .entry))) (envOf (now (codes .entry)) count) (now (nodes .entry)) depth at ⌝ }
+{
+    walk(size, rows, vars, nodes, codes, count, depth, at)
 }

@@ -5,9 +5,10 @@ use native.Mathlib.Nat.{pos-of-ne-zero}
 use mathlib.Core.Path.{sym, _∙_}
 use borrow.Author.Needs.{needs}
 use Rattle.rules.specs.Machine.{eval}
-use Rattle.program.proofs.Walk.{ends-deep, ends-past, ends-leaf, ends-one, ends-two}
+use Rattle.rules.specs.declared.Given.the-variants.{Stuck}
+use Rattle.program.proofs.Walk.{ends-deep, ends-past, ends-leaf, ends-one, ends-two, leaf-there, ends-there}
 use Rattle.eval.specs.Walk.{form, gave, gaveAt}
-use Rattle.eval.proofs.Laws.{folds, leaf-ends, tree-of, after-of}
+use Rattle.eval.proofs.Laws.{folds, tree-of, after-of}
 use Prim.Native.Nat.{ℕ, _+_, _*_, _<_}
 use borrow.Fn.Kinds.{In}
 use borrow.Fn.PlainCycle.{Measures, is, falls, and}
@@ -20,7 +21,7 @@ use Rattle.eval.proofs.+operand+walk.Lts-operand as operand-lts
 use Rattle.program.proofs.argument.Reads as argument-reads
 use Rattle.program.proofs.operation.Reads as operation-reads
 use Rattle.program.proofs.operands.Reads as operands-reads
-use Rattle.eval.proofs.is_leaf.Reads as is-leaf-reads
+use Rattle.program.proofs.is_leaf.Reads as is-leaf-reads
 use Rattle.eval.proofs.leaf.Reads as leaf-reads
 use Rattle.eval.proofs.leaf_at.Reads as leaf-at-reads
 use Rattle.eval.proofs.one_operand.Reads as one-operand-reads
@@ -64,10 +65,10 @@ unfolding gaveAt eval
     (operand-at t)
     operand.Post
     (λ c κs. search needs)  -- is-leaf-requires
-    (λ c κs. c .before .is-leaf .ensures (c .if1 .taken) .2)  -- leaf-at-requires
-    (λ c. omega (arith, c .before .before .is-leaf .ensures (c .before .if1 .taken) .1))  -- add-gives
+    (λ c κs. leaf-there _ _ _ (c .before .is-leaf .ensures) (c .if1 .taken) .2)  -- leaf-at-requires
+    (λ c. omega (arith, leaf-there _ _ _ (c .before .before .is-leaf .ensures) (c .before .if1 .taken) .1))  -- add-gives
     (λ c κs. search needs)  -- gives-requires
-    (λ c R D. leaf-ends _ _ _ _ _ _ _ _ (c .before .before .before .is-leaf .ensures (c .before .before .if1 .taken)) (c .gives .ensures) (c .before .leaf-at .ensures _ _ D))  -- returns
+    (λ c R D. ends-there (eval _ _ _) gave _ _ _ (form _ _ _) (folds _ _ _) (c .before .before .before .is-leaf .ensures) (c .before .before .if1 .taken) Stuck Stuck (c .gives .ensures) (c .before .leaf-at .ensures _ _ D))  -- returns
     (λ c κs. (omega (arith, c .before .before .pre .0), tt))  -- walk-requires
     (λ c. c .walk .ensures))  -- returns-2
     λ t. walk-lts.spec

@@ -4,7 +4,8 @@ use Prim.Native.Nat.{ℕ}
 use borrow.Author.Needs.{needs}
 use Rattle.rules.specs.View.{formOf}
 use Rattle.program.specs.Nodes.{arity}
-use Rattle.eval.proofs.Laws.{leaf-read}
+use Rattle.program.proofs.Walk.{node-read}
+use Rattle.eval.specs.Walk.{form}
 use Rattle.eval.proofs.leaf_at.Statement.{statement}
 use Rattle.eval.proofs.leaf_at.Tie as tie
 
@@ -15,4 +16,4 @@ leaf-at-spec =
     (λ c κs. search needs)  -- operation-requires
     (λ c κs. search needs)  -- argument-requires
     (λ c κs. ap (λ (o : ℕ). arity (formOf o)) (c .before .operation .ensures) ∙ c .before .before .pre)  -- leaf-requires
-    (λ c ρ σ D. leaf-read ρ σ _ _ _ _ _ _ (c .before .before .operation .ensures) (c .before .argument .ensures) (c .leaf .ensures ρ σ D)))  -- returns
+    (λ c ρ σ D. node-read (form ρ σ _) (c .before .before .operation .ensures) (c .before .argument .ensures) (c .leaf .ensures ρ σ D)))  -- returns
