@@ -89,12 +89,20 @@ fn table() {
     let quarter = row("accepted, 7.5 KB", &[glue(7_500)], 60);
     let half = row("accepted, 15 KB", &[glue(15_000)], 30);
     let whole = row("accepted, 30 KB", &[glue(30_000)], 15);
-    row("1,000 small texts", &small(1_000, 400), 1);
-    row("an empty text", &[Vec::new()], 1_000);
+    let texts = small(1_000, 400);
+    let many = row("1,000 small texts", &texts, 1);
+    let empty = row("an empty text", &[Vec::new()], 1_000);
     println!(
         "time at twice the bytes: {:.2} (7.5 to 15 KB), {:.2} (15 to 30 KB)",
         half / quarter,
         whole / half
+    );
+    // The tables are cleared when they are made, and again on a refusal. The empty text is refused, and costs nothing else.
+    let refused = texts.iter().filter(|text| proved(text).0 != 0).count();
+    println!(
+        "clearing: {:.0} % of the small texts' time ({} accepted, cleared once; {refused} refused, cleared twice, as the empty text is)",
+        100.0 * (texts.len() + refused) as f64 * empty / 2.0 / many,
+        texts.len() - refused
     );
 }
 

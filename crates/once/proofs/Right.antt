@@ -15,7 +15,7 @@ use Rattle.rules.specs.Text.Words.{byteAt, valueOf, nextOf, byteIs, plainAt, nu
 use Rattle.rules.specs.Text.Shape.{after, over, space, exprShape, Key, noKey, retK, typeK, paramK, localK, setK, putK, gotoK, ifK, ifimmK, iftagK, ifintK, returnK, labelK, keyOf, lineShape}
 use Rattle.rules.specs.Text.Layout.{Tables, withNodes, withBody, oneLine}
 use Rattle.rules.specs.Text.Fill.{Filled, filled, Out, out, expression, exprLine, fillSet, fillPutTwo, fillPut, fillIf, fillReturn, oneMore, fillLine}
-use Rattle.once.specs.Once.{exprOnce, Onced, once, lastOnce, afterOnce, setOnce, ifOnce, restOnce, twoOnce, putOnce, keyOnce, lineOnce, hasExpr}
+use Rattle.once.specs.Once.{exprOnce, Onced, once, lastOnce, afterMark, setOnce, ifOnce, restOnce, twoOnce, putOnce, keyOnce, lineOnce, hasExpr}
 use Rattle.once.proofs.Keys.{none}
 use Rattle.once.proofs.Shaped.{Limited, Read, expression-read, expression-full}
 
@@ -52,8 +52,8 @@ module _ (s : List ℕ) (c : Count) (t : Tables) where
   -- ---- a word, a space, and on
 
   module _ (M B : List ℕ) (go : ℕ → ℕ → Onced) (shape : ℕ → Next) (fill : ℕ → ℕ → Filled) (told : (x n : ℕ) → Told (go x n) (shape n) (fill x n)) where
-    word-told : (r : Reading) → Told (afterOnce s (once F.Limit M B) go r) (after r (space s shape)) (fill (valueOf r) (nextOf r + 1))
-    unfolding afterOnce byteIs
+    word-told : (r : Reading) → Told (afterMark s 32 (λ _. once F.Limit M B) go r) (after r (space s shape)) (fill (valueOf r) (nextOf r + 1))
+    unfolding afterMark byteIs
     word-told (Bad p) = λ n y b. not-at refl y
     word-told (Got x n) = by (eqb (byteAt s n) 32) refl
       where
@@ -103,7 +103,7 @@ module _ (s : List ℕ) (c : Count) (t : Tables) where
 
   -- one expression, after a word
   module _ (kind : ℕ) (l v : ℕ → ℕ) (r : Reading) where
-    one-told : Told (when (ltb (c .lines) 512) (λ _. when (ltb (c .nodes) 4096) (λ _. afterOnce s stop (λ x n. lastOnce s (c .lines) (c .nodes) kind (l x) (v x) 0 (t .body) (exprOnce s 16 n (c .nodes) (t .nodes))) r) (λ _. stop)) (λ _. stop))
+    one-told : Told (when (ltb (c .lines) 512) (λ _. when (ltb (c .nodes) 4096) (λ _. afterMark s 32 (λ _. stop) (λ x n. lastOnce s (c .lines) (c .nodes) kind (l x) (v x) 0 (t .body) (exprOnce s 16 n (c .nodes) (t .nodes))) r) (λ _. stop)) (λ _. stop))
         (after r (space s (exprShape s)))
         (oneMore c t (exprLine c t kind (l (valueOf r)) (v (valueOf r)) 0 (expression s 16 (nextOf r + 1) (c .nodes) (t .nodes))))
     one-told =

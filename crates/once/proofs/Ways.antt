@@ -1,15 +1,13 @@
 -- Lines: one law for each way through their code. Assumes nothing.
 use borrow.Author.Tests.{lt-ltb, le-ltb, eq-eqb, ne-eqb}
 use Rattle.rules.specs.Prelude.{ℕ, _+_, _≤_, _<_, false, List, _≡_, refl, sym, ap, _∙_}
-use Rattle.rules.specs.declared.Reading.{Reading}
-use Rattle.rules.specs.declared.Reading.the-variants.{Got, Bad}
 use Rattle.rules.specs.declared.Filling.{Filling}
 use Rattle.rules.specs.declared.Filling.the-variants as F
 use Rattle.rules.specs.Text.Words.{byteAt}
 use Rattle.rules.specs.Text.Shape.{Key, noKey, retK, typeK, paramK, localK, setK, putK, gotoK, ifK, ifimmK, iftagK, ifintK, returnK, labelK, keyOf}
 use Rattle.rules.specs.Text.Fill.{Out, out, putLine}
 use Rattle.once.proofs.Keys.{none}
-use Rattle.once.specs.Once.{Onced, once, lastOnce, afterOnce, restOnce, twoOnce, keyOnce, lineOnce, hasExpr}
+use Rattle.once.specs.Once.{Onced, once, lastOnce, restOnce, twoOnce, keyOnce, lineOnce, hasExpr}
 
 -- ---- the last expression, which gave r and the nodes N
 
@@ -29,22 +27,6 @@ module _ (s : List ℕ) (i k kind l v w : ℕ) (B : List ℕ) {o : Out} {r : Fil
     pub last-feed : byteAt s n ≡ 10 → {B′ : List ℕ} → B′ ≡ putLine B i kind l v w k → once (F.Got n free) N B′ ≡ lastOnce s i k kind l v w B o
     unfolding lastOnce
     last-feed h p = ap (once (F.Got n free) N) p ∙ (rw (eq-eqb (byteAt s n) 10) at last-got)
-
--- ---- a word and the space after it
-
-module _ (s : List ℕ) (stop : Onced) (go : ℕ → ℕ → Onced) {r q : Reading} (e : r ≡ q) where
-  pub word-bad : {p : ℕ} → r ≡ Bad p → stop ≡ afterOnce s stop go q
-  unfolding afterOnce
-  word-bad h = ap (afterOnce s stop go) (sym h ∙ e)
-
-  module _ {x n : ℕ} (h : r ≡ Got x n) where
-    pub no-space-after : (byteAt s n ≡ 32 → ⊥) → stop ≡ afterOnce s stop go q
-    unfolding afterOnce
-    no-space-after z = rw (ne-eqb (byteAt s n) 32) at (ap (afterOnce s stop go) (sym h ∙ e))
-
-    pub space-after : byteAt s n ≡ 32 → {o : Onced} → o ≡ go x (n + 1) → o ≡ afterOnce s stop go q
-    unfolding afterOnce
-    space-after z p = p ∙ (rw (eq-eqb (byteAt s n) 32) at (ap (afterOnce s stop go) (sym h ∙ e)))
 
 -- ---- the first expression of a `put`
 

@@ -12,6 +12,11 @@ use Rattle.rules.specs.Text.Words.{byteAt, plainAt, numberAt, varAt, arity, hea
 use Rattle.rules.specs.Text.Shape.{Key, noKey, retK, typeK, paramK, localK, setK, putK, gotoK, ifK, ifimmK, iftagK, ifintK, returnK, labelK, keyOf}
 use Rattle.rules.specs.Text.Fill.{Out, out, onward, putLine}
 
+-- on from what was read and the byte b after it, or stopped at the wrong byte
+unfoldable pub afterMark : {A : Type 0} → List ℕ → ℕ → (ℕ → A) → (ℕ → ℕ → A) → Reading → A
+afterMark s b stop go (Bad p) = stop p
+afterMark s b stop go (Got x n) = when (eqb (byteAt s n) b) (λ _. go x (n + 1)) (λ _. stop n)
+
 -- ---- expressions: as `Text.Fill.expression` writes them, and a space stands before each operand
 
 unfoldable pub operandsOnce : List ℕ → (ℕ → ℕ → List ℕ → Out) → ℕ → ℕ → ℕ → List ℕ → Out
@@ -46,20 +51,15 @@ lastOnce s i k kind l v w B (out (F.Got n free) N) =
     (λ _. once F.Limit N B)
 lastOnce s i k kind l v w B (out F.Limit N) = once F.Limit N B
 
--- on from what was read and the space after it
-unfoldable pub afterOnce : List ℕ → Onced → (ℕ → ℕ → Onced) → Reading → Onced
-afterOnce s stop go (Bad p) = stop
-afterOnce s stop go (Got x n) = when (eqb (byteAt s n) 32) (λ _. go x (n + 1)) (λ _. stop)
-
 unfoldable pub setOnce : List ℕ → ℕ → ℕ → ℕ → List ℕ → List ℕ → Onced
-setOnce s i k at N B = afterOnce s (once F.Limit N B) (λ v n. lastOnce s i k 1 0 v 0 B (exprOnce s (limits .depth) n k N)) (varAt s at)
+setOnce s i k at N B = afterMark s 32 (λ _. once F.Limit N B) (λ v n. lastOnce s i k 1 0 v 0 B (exprOnce s (limits .depth) n k N)) (varAt s at)
 
 unfoldable pub ifOnce : List ℕ → ℕ → ℕ → ℕ → List ℕ → List ℕ → Onced
-ifOnce s i k at N B = afterOnce s (once F.Limit N B) (λ l n. lastOnce s i k 4 l 0 0 B (exprOnce s (limits .depth) n k N)) (plainAt s at)
+ifOnce s i k at N B = afterMark s 32 (λ _. once F.Limit N B) (λ l n. lastOnce s i k 4 l 0 0 B (exprOnce s (limits .depth) n k N)) (plainAt s at)
 
 -- N and the second E of a `put`, at n
 unfoldable pub restOnce : List ℕ → ℕ → ℕ → ℕ → ℕ → List ℕ → List ℕ → Onced
-restOnce s i k n free N B = afterOnce s (once F.Limit N B) (λ w m. lastOnce s i k 2 0 0 w B (exprOnce s (limits .depth) m free N)) (numberAt s n)
+restOnce s i k n free N B = afterMark s 32 (λ _. once F.Limit N B) (λ w m. lastOnce s i k 2 0 0 w B (exprOnce s (limits .depth) m free N)) (numberAt s n)
 
 unfoldable pub twoOnce : List ℕ → ℕ → ℕ → List ℕ → Out → Onced
 twoOnce s i k B (out (F.Got n free) N) = when (eqb (byteAt s n) 32) (λ _. restOnce s i k (n + 1) free N B) (λ _. once F.Limit N B)

@@ -14,11 +14,12 @@ use Rattle.rules.specs.Text.Words.{byteAt, valueOf, nextOf, byteIs}
 use Rattle.rules.specs.Text.Shape.{after, over, end, boxedAt, offsetAt, tagAt, entryShape, moreEntries, labelShape, keyOf, partOf, lineShape}
 use Rattle.rules.specs.Text.Layout.{Tables, withLabels, withBody, oneLabel, oneLine, inPart}
 use Rattle.rules.specs.Text.Fill.{filled, putLine, plainLine, putEntry, fillEntries, fillLabel, fillLine}
+use Rattle.once.specs.Once.{afterMark}
 use Rattle.once.proofs.Right.{Refuses}
 use Rattle.reader.specs.Read.{Late, settled}
 use Rattle.reader.proofs.Once.{late-bad, late-no-feed}
 use Rattle.reader.proofs.Ways.{label-room, label-full, too-many}
-use Rattle.reader.specs.Labels.{Entered, entered, afterOnce, putOnce, tagOnce, offsetOnce, entryOnce, moreOnce, entriesOnce}
+use Rattle.reader.specs.Labels.{Entered, entered, putOnce, tagOnce, offsetOnce, entryOnce, moreOnce, entriesOnce}
 
 -- the shape of all entries, and what the rules fill
 abbrev All : Next → List ℕ → Entered → Type 0
@@ -39,8 +40,8 @@ module _ (s : List ℕ) (l : ℕ) where
 
     -- a word, a comma, and on
     after-one : (go : ℕ → ℕ → Entered) (shape : ℕ → Next) (fill : ℕ → ℕ → ℕ → List ℕ) → ((x n : ℕ) → One (shape n) (fill x n) (go x n))
-        → (r : Reading) → One (after r (λ n. over (byteIs s n 44) shape)) (fill (valueOf r) (nextOf r + 1)) (afterOnce s L go r)
-    unfolding afterOnce byteIs
+        → (r : Reading) → One (after r (λ n. over (byteIs s n 44) shape)) (fill (valueOf r) (nextOf r + 1)) (afterMark s 44 (λ p. entered (N.Bad p) L) go r)
+    unfolding afterMark byteIs
     after-one go shape fill one (Bad p) = refl
     after-one go shape fill one (Got x n) = by (eqb (byteAt s n) 44)
       where
@@ -80,23 +81,7 @@ module _ (s : List ℕ) (l : ℕ) where
   entries-all (suc more) v at L =
       more-all more v L (entryShape s at) (λ m. fillEntries s l (suc m) v L at) (λ n M. entries-all more (v + 1) n M) (entryOnce s l v at L) (entry-one v L at)
 
--- ---- one law for each way through the code: a word and the comma after it
-
-module _ (s L : List ℕ) (go : ℕ → ℕ → Entered) {r q : Reading} (e : r ≡ q) where
-  pub word-bad : {p : ℕ} → r ≡ Bad p → entered (N.Bad p) L ≡ afterOnce s L go q
-  unfolding afterOnce
-  word-bad h = ap (afterOnce s L go) (sym h ∙ e)
-
-  module _ {x n : ℕ} (h : r ≡ Got x n) where
-    pub no-comma : (byteAt s n ≡ 44 → ⊥) → entered (N.Bad n) L ≡ afterOnce s L go q
-    unfolding afterOnce
-    no-comma z = rw (ne-eqb (byteAt s n) 44) at (ap (afterOnce s L go) (sym h ∙ e))
-
-    pub comma : byteAt s n ≡ 44 → {o : Entered} → o ≡ go x (n + 1) → o ≡ afterOnce s L go q
-    unfolding afterOnce
-    comma z p = p ∙ (rw (eq-eqb (byteAt s n) 44) at (ap (afterOnce s L go) (sym h ∙ e)))
-
--- ---- an entry, after which `more` less one are still to come
+-- ---- one law for each way through the code: an entry, after which `more` less one are still to come
 
 pub no-entries : (s : List ℕ) (l v at more : ℕ) (L : List ℕ) → more ≡ 0 → entered (N.At at) L ≡ entriesOnce s l more v at L
 unfolding entriesOnce

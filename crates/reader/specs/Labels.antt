@@ -8,15 +8,11 @@ use Rattle.rules.specs.When.{when}
 use Rattle.rules.specs.Text.Words.{byteAt}
 use Rattle.rules.specs.Text.Shape.{boxedAt, offsetAt, tagAt}
 use Rattle.rules.specs.Text.Fill.{putEntry}
+use Rattle.once.specs.Once.{afterMark}
 
 -- the byte after them, or the wrong one, with the table of labels
 pub data Entered : Type 0 where
   entered : Next → List ℕ → Entered
-
--- on from what was read and the comma after it
-unfoldable pub afterOnce : List ℕ → List ℕ → (ℕ → ℕ → Entered) → Reading → Entered
-afterOnce s L go (Bad p) = entered (N.Bad p) L
-afterOnce s L go (Got x n) = when (eqb (byteAt s n) 44) (λ _. go x (n + 1)) (λ _. entered (N.Bad n) L)
 
 abbrev pub putOnce : ℕ → ℕ → ℕ → ℕ → List ℕ → Reading → Entered
 putOnce l v b i L (Bad p) = entered (N.Bad p) L
@@ -26,10 +22,10 @@ unfoldable pub tagOnce : List ℕ → ℕ → ℕ → ℕ → ℕ → ℕ → Li
 tagOnce s l v b i at L = putOnce l v b i L (tagAt s at)
 
 unfoldable pub offsetOnce : List ℕ → ℕ → ℕ → ℕ → ℕ → List ℕ → Entered
-offsetOnce s l v b at L = afterOnce s L (λ i n. tagOnce s l v b i n L) (offsetAt s at)
+offsetOnce s l v b at L = afterMark s 44 (λ p. entered (N.Bad p) L) (λ i n. tagOnce s l v b i n L) (offsetAt s at)
 
 unfoldable pub entryOnce : List ℕ → ℕ → ℕ → ℕ → List ℕ → Entered
-entryOnce s l v at L = afterOnce s L (λ b n. offsetOnce s l v b n L) (boxedAt s at)
+entryOnce s l v at L = afterMark s 44 (λ p. entered (N.Bad p) L) (λ b n. offsetOnce s l v b n L) (boxedAt s at)
 
 abbrev pub moreOnce : List ℕ → (ℕ → List ℕ → Entered) → ℕ → Entered → Entered
 moreOnce s rest more (entered (N.Bad p) L) = entered (N.Bad p) L
