@@ -11,6 +11,9 @@ use borrow.Author.Needs.{needs}
 use Rattle.reader.proofs.label_line.Statement.{statement}
 use Rattle.reader.proofs.label_line.Tie as tie
 
+one-label-requires : tie.Need-one-label-requires
+one-label-requires c κs = omega (arith, ap (λ (d : Count). d .labels) (c .one-line .ensures), c .before .before .before .before .before .before .before .before .before .before .before .before .before .if2 .left)
+
 pub label-line-spec : {M : Type 1} → statement M
 label-line-spec =
     tie.close
@@ -32,7 +35,7 @@ label-line-spec =
     (λ c κs. search needs)  -- put-line-requires
     (λ c. omega (arith, inside (c .before .before .before .before .before .before .before .before .before .before .before .before .before .before .before .before .before .args .s .now) (c .before .before .before .before .before .before .e2 .given .0 .0) (omega (arith, c .before .before .before .before .byte-at .ensures, c .before .before .before .if3 .left))))  -- add-t21
     (λ c κs. search needs)  -- one-line-requires
-    (λ c κs. omega (arith, ap (λ (d : Count). d .labels) (c .one-line .ensures), c .before .before .before .before .before .before .before .before .before .before .before .before .before .if2 .left))  -- one-label-requires
+    one-label-requires
     (λ c κs. search needs)  -- part-of-requires
     (λ c κs. search needs)  -- in-part-requires
     (λ c. let a = c .before .before .before .before .before .before .before .before .before .before .before .before .before .args in λ t. ap settled (c .refused .ensures _) ∙ label-bad (a .s .now) (a .at) (a .c) (withBody (withLabels t (a .labels .now)) (a .body .now)) (c .before .before .before .before .entries-once .ensures ∙ ap (entriesOnce (a .s .now) (a .c .labels) (a .c .vars) 0 (a .at)) (c .before .before .before .before .before .before .put-label-line .ensures)) (c .before .before .e .given .1) _ _ _)  -- returns-4
