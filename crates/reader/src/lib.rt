@@ -1,5 +1,5 @@
 // A glue text read into the tables of a program: each line's shape first, then its limits, with its numbers written on the way.
-// A line with expressions, and a label, is read at once, and looked at for its shape alone only if that fails.
+// A line with expressions is read at once, and looked at for its shape alone only if that fails; so is a label, and looked at only if it passes a limit.
 use once::line_once;
 use program::clear;
 use program::put_entry;

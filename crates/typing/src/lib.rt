@@ -361,7 +361,7 @@ fn ty_step(size: &[u32; 6], rows: &[u32; 17536], x: Judged, y: Judged) -> Judged
 
 // ---- the walk
 
-// The forms by how many operands they have: each is judged by a function that the walk alone calls, so that no judgement is copied on its way out.
+// The forms by how many operands they have. Those with operands are judged by functions that the walk alone calls, so that no judgement is copied on its way out.
 
 // A number or a variable; no other operation that has no operands is anything (4).
 fn leaf(
