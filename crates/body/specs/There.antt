@@ -1,5 +1,5 @@
 -- Where no line names a label that is absent, as in every program whose names are accepted, the lines are judged as the rules say;
--- so a check that looks at the names first answers as the rules do for all tables. Assumes nothing.
+-- so a check in which the names come first answers as the rules do for all tables. Assumes nothing.
 use lib.Dec.{T}
 use borrow.Author.Tests.{ltb-true, eqb-true}
 use native.Mathlib.Omega.{arith as lin}

@@ -1,41 +1,31 @@
--- Checking, way by way: refused before the types, by a type, by the last line, or not at all. Assumes nothing.
-use borrow.Author.Tests.{ne-eqb, eq-eqb, eqb-false}
-use Rattle.rules.specs.Prelude.{ℕ, List, Bool, true, false, _≡_, refl, sym, ap, _∙_, subst}
+-- Checking, way by way: a program refused by its names, by a type or by its last line; a text refused as it is read, by its program, or not at all. Assumes nothing.
+use borrow.Author.Tests.{ne-eqb, eq-eqb}
+use Rattle.rules.specs.Prelude.{ℕ, zero, suc, _+_, List, _≡_, refl, sym, ap, _∙_, subst, not, ltb, eqb, length}
 use Rattle.rules.specs.declared.Answer.{Answer}
+use Rattle.rules.specs.declared.Count.{Count}
 use Rattle.rules.specs.declared.Verdict.{Verdict}
 use Rattle.rules.specs.declared.Verdict.the-variants as C
-use Rattle.rules.specs.When.{One, when}
-use Rattle.rules.specs.Answers.{accepted, passes, andThen, caseOf}
-use Rattle.rules.specs.Text.Layout.{Tables, zeros}
-use Rattle.rules.specs.Text.{TextOut, readText}
-use Rattle.rules.specs.Program.{Prog}
+use Rattle.rules.specs.When.{One}
+use Rattle.rules.specs.Limits.{limits}
+use Rattle.rules.specs.Answers.{accepted, andThen, caseOf}
+use Rattle.rules.specs.Text.Layout.{Tables, nothing, zeros}
+use Rattle.rules.specs.Text.{TextOut, Lined, lined, andLine, lineAt, linesFrom, mostLines, readText}
 use Rattle.rules.specs.View.{program}
 use Rattle.rules.specs.Names.{names}
-use Rattle.rules.specs.Body.{types, ends}
+use Rattle.rules.specs.Body.{ends}
 use Rattle.rules.specs.Check.{check, Checked, checked, verdict}
-use Rattle.rules.specs.Laws.Stages.{first-plain}
+use Rattle.rules.specs.Laws.Tests.{by-when}
 use Rattle.rules.specs.Laws.Accepts.{refused-tables, accepted-tables, verdict-plain}
 use Rattle.program.specs.Lines.{tablesOf}
-use Rattle.reader.specs.Read.{Holds}
+use Rattle.reader.specs.Read.{Holds, readOver, over-zeros}
 use Rattle.reader.proofs.Laws.{tables-are}
-use Rattle.glue.specs.Named.{namedOf, namedOver, over-zeros, readNamed}
+use Rattle.names.specs.Trees.{namesIn}
 use Rattle.body.specs.Lines.{typesIn}
-use Rattle.body.specs.There.{types-is}
+use Rattle.body.specs.There.{check-is}
+use Rattle.checker.proofs.Named.{names-by}
 use Rattle.checker.specs.Says.{Says}
 
--- ---- the stages, grouped as the code takes them
-
--- the names come with the reading; then the types and the last line
-later : TextOut → One → Answer
-later o x = andThen (types (program (o .tables))) (λ _. ends (program (o .tables)))
-
-group : (o : TextOut) (c : Bool) → passes (o .answer) ≡ c → andThen (o .answer) (λ _. andThen (names (program (o .tables))) (later o)) ≡ andThen (andThen (o .answer) (λ _. names (program (o .tables)))) (later o)
-group o true q = rw q
-group o false q = rw (q, q)
-
-grouped : (s : List ℕ) → checked s .verdict ≡ andThen (readNamed s .answer) (later (readText s))
-unfolding checked check readNamed namedOf later
-grouped s = group (readText s) (passes (readText s .answer)) refl
+-- ---- a stage, and what comes after it
 
 stops : (a : Answer) (f : One → Answer) → (a .number ≡ 0 → ⊥) → andThen a f ≡ a
 stops a f n = rw (ne-eqb (a .number) 0 n)
@@ -43,23 +33,47 @@ stops a f n = rw (ne-eqb (a .number) 0 n)
 goes : (a : Answer) (f : One → Answer) → a .number ≡ 0 → andThen a f ≡ f tt
 goes a f z = rw (eq-eqb (a .number) 0 z)
 
--- a text that passes the names: its names exist, and the tables are those that were read
-named-zero : (o : TextOut) (c : Bool) → passes (o .answer) ≡ c → when c (λ _. names (program (o .tables))) (λ _. o .answer) .number ≡ 0 → names (program (o .tables)) ≡ accepted
-unfolding names
-named-zero o true q z = first-plain 1 _ z
-named-zero o false q z = absurd (eqb-false (o .answer .number) 0 q z)
+-- ---- a program: typing is asked first, and the names win
 
-names-pass : (s : List ℕ) → readNamed s .answer .number ≡ 0 → names (program (readText s .tables)) ≡ accepted
-unfolding readNamed namedOf
-names-pass s z = named-zero (readText s) (passes (readText s .answer)) refl z
+module _ (t : Tables) (a n : Answer) (ea : a ≡ typesIn t) (en : n ≡ namesIn (not (eqb (a .number) 0)) (program t)) where
+  abbrev later : One → Answer
+  later x = andThen (typesIn t) (λ _. ends (program t))
 
-tables-pass : (s : List ℕ) → readNamed s .answer .number ≡ 0 → readNamed s .tables ≡ readText s .tables
-unfolding readNamed namedOf
-tables-pass s z = rw (eq-eqb (readNamed s .answer .number) 0 z)
+  named : names (program t) ≡ n
+  named = sym (names-by t a ea) ∙ sym en
 
-tables-refused : (s : List ℕ) → (readNamed s .answer .number ≡ 0 → ⊥) → readNamed s .tables ≡ zeros
-unfolding readNamed namedOf
-tables-refused s n = rw (ne-eqb (readNamed s .answer .number) 0 n)
+  pub by-names : (n .number ≡ 0 → ⊥) → n ≡ check (program t)
+  by-names h = sym (sym (check-is t) ∙ ap (λ (x : Answer). andThen x later) named ∙ stops n later h)
+
+  module _ (z : n .number ≡ 0) where
+    on : check (program t) ≡ andThen a (λ _. ends (program t))
+    on = sym (check-is t) ∙ ap (λ (x : Answer). andThen x later) named ∙ goes n later z ∙ ap (λ (x : Answer). andThen x (λ _. ends (program t))) (sym ea)
+
+    pub by-types : (a .number ≡ 0 → ⊥) → a ≡ check (program t)
+    by-types h = sym (on ∙ stops a (λ _. ends (program t)) h)
+
+    pub by-ends : a .number ≡ 0 → (b : Answer) → b ≡ ends (program t) → b ≡ check (program t)
+    by-ends h b e = e ∙ sym (on ∙ goes a (λ _. ends (program t)) h)
+
+-- ---- a text that is refused leaves nothing
+
+abbrev Clear : TextOut → Type 0
+Clear o = (o .answer .number ≡ 0 → ⊥) → o .tables ≡ zeros
+
+line-clear : (rest : ℕ → Count → Tables → TextOut) (line : ℕ) (x : Lined) → ((n : ℕ) (c : Count) (t : Tables) → Clear (rest n c t)) → Clear (andLine rest line x)
+line-clear rest line (lined a n c t) f = by-when Clear (eqb a 0) _ _ (λ z. f n c t) (λ z h. refl)
+
+lines-clear : (s : List ℕ) (left line at : ℕ) (c : Count) (t : Tables) → Clear (linesFrom s left line at c t)
+unfolding linesFrom
+lines-clear s zero line at c t = λ h. refl
+lines-clear s (suc left) line at c t =
+    by-when Clear (ltb at (length s)) _ _
+    (λ z. line-clear (linesFrom s left (line + 1)) line (lineAt s at c t) (lines-clear s left (line + 1)))
+    (λ z. by-when Clear (eqb (c .part) 0) _ _ (λ y h. refl) (λ y h. absurd (h refl)))
+
+text-clear : (s : List ℕ) → Clear (readText s)
+unfolding readText
+text-clear s = by-when Clear (ltb (limits .bytes) (length s)) _ _ (λ z h. refl) (λ z. lines-clear s (mostLines + 1) 1 0 nothing zeros)
 
 -- ---- the answer and the tables
 
@@ -86,45 +100,28 @@ module _ (Z N R D L B : List ℕ) where
       let p : checked s .verdict ≡ accepted = verdict-plain s (subst (λ (x : Answer). x .number ≡ 0) (sym e) z) in
       says (checked s) C.Accepted (sym (ap caseOf p)) (h ∙ sym (accepted-tables s p))
 
--- ---- the ways through the stages
+-- ---- a text, read over tables that hold nothing
 
-module _ (s : List ℕ) (t : Tables) (e : t ≡ zeros) (a : Answer) (Z N R D L B : List ℕ) (h : Holds (namedOver s t) a Z N R D L B) where
-  -- read over tables that hold nothing
-  fresh : namedOver s t ≡ readNamed s
-  fresh = ap (namedOver s) e ∙ over-zeros s
+module _ (s : List ℕ) (t : Tables) (e : t ≡ zeros) (a : Answer) (Z N R D L B : List ℕ) (h : Holds (readOver s t) a Z N R D L B) where
+  fresh : readOver s t ≡ readText s
+  fresh = ap (readOver s) e ∙ over-zeros s
 
-  answered : a ≡ readNamed s .answer
+  answered : a ≡ readText s .answer
   answered = h .answer ∙ ap (λ (o : TextOut). o .answer) fresh
 
-  left : tablesOf Z N R D L B ≡ readNamed s .tables
-  left = tables-are h ∙ ap (λ (o : TextOut). o .tables) fresh
+  pub as-read : tablesOf Z N R D L B ≡ readText s .tables
+  as-read = tables-are h ∙ ap (λ (o : TextOut). o .tables) fresh
 
-  pub by-names : (a .number ≡ 0 → ⊥) → checked s .verdict ≡ a
-  by-names n = grouped s ∙ ap (λ (x : Answer). andThen x (later (readText s))) (sym answered) ∙ stops a (later (readText s)) n
+  abbrev rest : One → Answer
+  rest x = check (program (readText s .tables))
+
+  pub by-reading : (a .number ≡ 0 → ⊥) → checked s .verdict ≡ a
+  unfolding checked
+  by-reading n = ap (λ (x : Answer). andThen x rest) (sym answered) ∙ stops a rest n
 
   pub as-cleared : (a .number ≡ 0 → ⊥) → tablesOf Z N R D L B ≡ zeros
-  as-cleared n = left ∙ tables-refused s (subst (λ (x : Answer). x .number ≡ 0 → ⊥) answered n)
+  as-cleared n = as-read ∙ text-clear s (subst (λ (x : Answer). x .number ≡ 0 → ⊥) answered n)
 
-  module _ (z : a .number ≡ 0) where
-    abbrev P : Prog
-    P = program (readText s .tables)
-
-    named : readNamed s .answer .number ≡ 0
-    named = subst (λ (x : Answer). x .number ≡ 0) answered z
-
-    pub as-read : tablesOf Z N R D L B ≡ readText s .tables
-    as-read = left ∙ tables-pass s named
-
-    on : checked s .verdict ≡ andThen (types P) (λ _. ends P)
-    unfolding later
-    on = grouped s ∙ ap (λ (x : Answer). andThen x (later (readText s))) (sym answered) ∙ goes a (later (readText s)) z
-
-    typed-as : (b : Answer) → b ≡ typesIn (tablesOf Z N R D L B) → b ≡ types P
-    typed-as b q = q ∙ ap typesIn as-read ∙ types-is (readText s .tables) (names-pass s named)
-
-    pub by-types : (b : Answer) → b ≡ typesIn (tablesOf Z N R D L B) → (b .number ≡ 0 → ⊥) → checked s .verdict ≡ b
-    by-types b q n = on ∙ ap (λ (x : Answer). andThen x (λ _. ends P)) (sym (typed-as b q)) ∙ stops b (λ _. ends P) n
-
-    pub by-ends : (b c : Answer) → b ≡ typesIn (tablesOf Z N R D L B) → b .number ≡ 0 → c ≡ ends (program (tablesOf Z N R D L B)) → checked s .verdict ≡ c
-    by-ends b c q y f =
-        on ∙ ap (λ (x : Answer). andThen x (λ _. ends P)) (sym (typed-as b q)) ∙ goes b (λ _. ends P) y ∙ sym (f ∙ ap (λ (u : Tables). ends (program u)) as-read)
+  pub by-program : a .number ≡ 0 → (b : Answer) → b ≡ check (program (tablesOf Z N R D L B)) → checked s .verdict ≡ b
+  unfolding checked
+  by-program z b q = ap (λ (x : Answer). andThen x rest) (sym answered) ∙ goes a rest z ∙ sym (q ∙ ap (λ (u : Tables). check (program u)) as-read)

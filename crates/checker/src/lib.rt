@@ -1,11 +1,35 @@
-// The checker: the stages in order, the earliest that refuses wins.
+// The checker: of the stages that refuse, the earliest wins.
 ghost use mathlib.Core.Path.{_≡_};
 ghost use Rattle.rules.specs.Answers.{caseOf};
-ghost use Rattle.rules.specs.Check.{checked, verdict};
+ghost use Rattle.rules.specs.View.{program};
+ghost use Rattle.rules.specs.Check.{check as checkProgram, checked, verdict};
 ghost use Rattle.rules.specs.Text.Layout.{zeros};
 ghost use Rattle.program.specs.Lines.{tablesOf};
 ghost use Rattle.checker.specs.Says.{Says};
+use rules::Answer;
 use rules::Verdict;
+
+// Answers 4 to 13 for the program in the tables. Typing comes before the names, and its answer is kept back: where it refuses nothing, every name in an expression exists, and the expressions are not walked for them.
+fn program_judged(
+    size: &[u32; 6],
+    nodes: &[u64; 4096],
+    rows: &[u32; 17536],
+    vars: &[u32; 96],
+    labels: &[u64; 6208],
+    lines: &[u32; 2560],
+) -> Answer
+    ensures { λ r. ⌜ r ≡ checkProgram (program (tablesOf (now (size .entry)) (now (nodes .entry)) (now (rows .entry)) (now (vars .entry)) (now (labels .entry)) (now (lines .entry)))) ⌝ }
+{
+    let typed = body::typed(size, rows, vars, labels, nodes, lines);
+    let named = names::named(size, nodes, rows, vars, labels, lines, typed.number != 0);
+    if named.number != 0 {
+        return named;
+    }
+    if typed.number != 0 {
+        return typed;
+    }
+    body::ended(size, lines)
+}
 
 // The answer to a glue text, for tables that are all 0: the program is in them if it is accepted, and on a refusal they are all 0 again.
 fn judged(
@@ -20,20 +44,15 @@ fn judged(
     requires { ⌜ tablesOf (now size) (now nodes) (now rows) (now vars) (now labels) (now lines) ≡ zeros ⌝ }
     ensures { λ r. ⌜ Says (checked (now (s .entry))) r (now (size .exit)) (now (nodes .exit)) (now (rows .exit)) (now (vars .exit)) (now (labels .exit)) (now (lines .exit)) ⌝ }
 {
-    let a = glue::read(s, size, nodes, rows, vars, labels, lines);
-    // what refuses a text or its names has cleared the tables
+    let a = reader::read(s, size, nodes, rows, vars, labels, lines);
+    // what refuses the text has cleared the tables
     if a.number != 0 {
         return answers::case_of(a);
     }
-    let b = body::typed(size, rows, vars, labels, nodes, lines);
+    let b = program_judged(size, nodes, rows, vars, labels, lines);
     if b.number != 0 {
         program::clear(size, nodes, rows, vars, labels, lines);
         return answers::case_of(b);
-    }
-    let last = body::ended(size, lines);
-    if last.number != 0 {
-        program::clear(size, nodes, rows, vars, labels, lines);
-        return answers::case_of(last);
     }
     Verdict::Accepted
 }

@@ -1,4 +1,4 @@
--- The contracts of names, once, reader, glue, tally, fits and store determine. Assumes nothing.
+-- The contracts of names, once, reader, tally, fits and store determine. Assumes nothing.
 use Rattle.rules.specs.Prelude.{ℕ, List, [], _≡_, refl, ap}
 use Rattle.rules.specs.declared.Answer.{Answer}
 use Rattle.rules.specs.Text.{TextOut}
@@ -14,7 +14,6 @@ use Rattle.determined.specs.Tables.{Six, six}
 use Rattle.names.proofs as names
 use Rattle.once.proofs as once
 use Rattle.reader.proofs as reader
-use Rattle.glue.proofs as glue
 use Rattle.tally.proofs as tally
 use Rattle.fits.proofs as fits
 use Rattle.store.proofs as store
@@ -59,11 +58,6 @@ once-line-once κs a x y s t h k =
 
 pub reader-read : Determined reader.read.ended reader.read.Reads.Learnt
 reader-read κs a x y s t h k = (one (h .answer) (k .answer), skip (one (left h) (left k)))
-
--- ---- glue
-
-pub glue-read : Determined glue.read.ended glue.read.Reads.Learnt
-glue-read κs a x y s t h k = (one (h .answer) (k .answer), skip (one (left h) (left k)))
 
 -- ---- tally
 

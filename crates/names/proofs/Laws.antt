@@ -11,7 +11,7 @@ use Rattle.rules.specs.Answers.{answer, andThen, first}
 use Rattle.rules.specs.Environments.{noVar}
 use Rattle.rules.specs.Program.{Prog, Var, Expr, Stmt, badS, setS, putS, gotoS, ifS, ifimmS, iftagS, ifintS, returnS, rowThere, kindAt, labelAt, noEntry}
 use Rattle.rules.specs.View.{tab, varsFrom, labelsFrom, labelFrom, entryFrom, Walked, walked, Form, none, litF, varF, fetchF, intF, valF, stepF, calc, formOf, treeAt, Way, noW, setW, putW, gotoW, ifW, ifimmW, iftagW, ifintW, returnW, labelW, wayOf, treeOf, withOne, withTwo, stmtOf, stmtFrom, bodyFrom}
-use Rattle.rules.specs.Names.{exprThere, fieldsThere, productsThere, entrySuits, entriesSuit, nameKind, nameRow, nameVar, nameStmt, names}
+use Rattle.rules.specs.Names.{exprThere, fieldsThere, productsThere, entrySuits, entriesSuit, nameKind, nameRow, nameVar}
 use Rattle.rules.specs.Laws.Lists.{tab-length, tab-in}
 use Rattle.table.proofs.Passes.{left-more, left-none, then-on, then-no, first-append}
 use Rattle.program.specs.declared.Stored.{Stored}
@@ -20,6 +20,7 @@ use Rattle.program.proofs.Laws.{vars-small, label-in, label-out, line-in, line-
 use Rattle.program.specs.Nodes.{arity, afterOf}
 use Rattle.program.proofs.Walk.{Folds, ends-deep, ends-past, ends-leaf, ends-one, ends-two}
 use Rattle.names.specs.Walk.{formThere, moreIf, thereAt}
+use Rattle.names.specs.Trees.{lineNamed, namesIn}
 
 -- ---- a test of all
 
@@ -68,27 +69,27 @@ module _ (Z D L : List ℕ) (l v n m : ℕ) (en : n ≡ length (varsFrom Z D)) (
 -- ---- part by part
 
 -- the answers of the parts, one after the other: `ret`, the rows, the variables, the body
-module _ (P : Prog) (top : ℕ) (et : top ≡ nameKind P (P .ret)) where
-  pub names-top : (top ≡ 0 → ⊥) → answer top 1 ≡ names P
-  unfolding names first
+module _ (trees : Bool) (P : Prog) (top : ℕ) (et : top ≡ nameKind P (P .ret)) where
+  pub names-top : (top ≡ 0 → ⊥) → answer top 1 ≡ namesIn trees P
+  unfolding namesIn first
   names-top z = rw (sym et, ne-eqb top 0 z)
 
   module _ (zt : top ≡ 0) (a : Answer) (ea : a ≡ first 2 (map (nameRow P) (P .rows))) where
-    from-rows : names P ≡ andThen a (λ _. first (2 + length (P .rows)) (map (nameVar P) (P .vars) ++ map (nameStmt P) (P .body)))
-    unfolding names first
-    from-rows = rw (sym et, zt, ea, sym (length-map (P .rows) (nameRow P))) (first-append 2 (map (nameRow P) (P .rows)) (map (nameVar P) (P .vars) ++ map (nameStmt P) (P .body)))
+    from-rows : namesIn trees P ≡ andThen a (λ _. first (2 + length (P .rows)) (map (nameVar P) (P .vars) ++ map (lineNamed trees P) (P .body)))
+    unfolding namesIn first
+    from-rows = rw (sym et, zt, ea, sym (length-map (P .rows) (nameRow P))) (first-append 2 (map (nameRow P) (P .rows)) (map (nameVar P) (P .vars) ++ map (lineNamed trees P) (P .body)))
 
-    pub names-rows : (a .number ≡ 0 → ⊥) → a ≡ names P
+    pub names-rows : (a .number ≡ 0 → ⊥) → a ≡ namesIn trees P
     names-rows z = rw from-rows (then-no a _ z)
 
     module _ (za : a .number ≡ 0) (k : ℕ) (ek : k ≡ length (P .rows)) (b : Answer) (eb : b ≡ first (2 + k) (map (nameVar P) (P .vars))) where
-      from-vars : names P ≡ andThen b (λ _. first (2 + k + length (P .vars)) (map (nameStmt P) (P .body)))
-      from-vars = from-rows ∙ then-on a _ za ∙ rw (sym ek, eb, sym (length-map (P .vars) (nameVar P))) (first-append (2 + k) (map (nameVar P) (P .vars)) (map (nameStmt P) (P .body)))
+      from-vars : namesIn trees P ≡ andThen b (λ _. first (2 + k + length (P .vars)) (map (lineNamed trees P) (P .body)))
+      from-vars = from-rows ∙ then-on a _ za ∙ rw (sym ek, eb, sym (length-map (P .vars) (nameVar P))) (first-append (2 + k) (map (nameVar P) (P .vars)) (map (lineNamed trees P) (P .body)))
 
-      pub names-vars : (b .number ≡ 0 → ⊥) → b ≡ names P
+      pub names-vars : (b .number ≡ 0 → ⊥) → b ≡ namesIn trees P
       names-vars z = rw from-vars (then-no b _ z)
 
-      pub names-body : b .number ≡ 0 → (j : ℕ) → j ≡ length (P .vars) → (r : Answer) → r ≡ first (2 + k + j) (map (nameStmt P) (P .body)) → r ≡ names P
+      pub names-body : b .number ≡ 0 → (j : ℕ) → j ≡ length (P .vars) → (r : Answer) → r ≡ first (2 + k + j) (map (lineNamed trees P) (P .body)) → r ≡ namesIn trees P
       names-body z j ej r er = rw (from-vars, then-on b _ z, sym ej) er
 
 -- ---- the walk

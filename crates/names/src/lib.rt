@@ -9,10 +9,11 @@ ghost use Rattle.rules.specs.When.{need};
 ghost use Rattle.rules.specs.Answers.{first};
 ghost use Rattle.rules.specs.Program.{rowAt, labelAt};
 ghost use Rattle.rules.specs.View.{formOf, treeOf, treeAt, wayOf, stmtOf, stmtFrom, rowsFrom, varsFrom, labelsFrom, bodyFrom, program};
-ghost use Rattle.rules.specs.Names.{kindThere, exprThere, stmtThere, fieldsThere, productsThere, entrySuits, entriesSuit, labelSuits, nameKind, nameRow, nameVar, nameStmt, names};
+ghost use Rattle.rules.specs.Names.{kindThere, fieldsThere, productsThere, entrySuits, entriesSuit, labelSuits, nameKind, nameRow, nameVar};
 ghost use Rattle.program.specs.Lines.{tablesOf};
 ghost use Rattle.program.specs.Nodes.{arity, afterOf};
 ghost use Rattle.names.specs.Walk.{formThere, thereAt};
+ghost use Rattle.names.specs.Trees.{treeNamed, stmtNamed, lineNamed, namesIn};
 use program::Stored;
 use rules::Answer;
 use rules::Boxed;
@@ -182,35 +183,44 @@ fn there_at(size: &[u32; 6], nodes: &[u64; 4096], depth: usize, at: usize) -> us
     there_at(size, nodes, depth - 1, second)
 }
 
-fn tree_there(size: &[u32; 6], nodes: &[u64; 4096], k: usize) -> bool
-    ensures { λ b. ⌜ ((R D L B : List ℕ) → b ≡ exprThere (program (tablesOf (now (size .entry)) (now (nodes .entry)) R D L B)) (treeOf (treeAt (now (nodes .entry)) 16 k))) ⌝ }
+fn tree_there(size: &[u32; 6], nodes: &[u64; 4096], trees: bool, k: usize) -> bool
+    ensures { λ b. ⌜ ((R D L B : List ℕ) → b ≡ treeNamed trees (program (tablesOf (now (size .entry)) (now (nodes .entry)) R D L B)) (treeOf (treeAt (now (nodes .entry)) 16 k))) ⌝ }
 {
-    there_at(size, nodes, Limits::DEPTH, k) != 0
+    if trees {
+        there_at(size, nodes, Limits::DEPTH, k) != 0
+    } else {
+        true
+    }
 }
 
 // The two trees of a `put`: the second begins after the first.
-fn trees_there(size: &[u32; 6], nodes: &[u64; 4096], k: usize) -> bool
-    ensures { λ b. ⌜ ((R D L B : List ℕ) → b ≡ (exprThere (program (tablesOf (now (size .entry)) (now (nodes .entry)) R D L B)) (treeOf (treeAt (now (nodes .entry)) 16 k)) && exprThere (program (tablesOf (now (size .entry)) (now (nodes .entry)) R D L B)) (treeOf (treeAt (now (nodes .entry)) 16 (afterOf (treeAt (now (nodes .entry)) 16 k)))))) ⌝ }
+fn trees_there(size: &[u32; 6], nodes: &[u64; 4096], trees: bool, k: usize) -> bool
+    ensures { λ b. ⌜ ((R D L B : List ℕ) → b ≡ (treeNamed trees (program (tablesOf (now (size .entry)) (now (nodes .entry)) R D L B)) (treeOf (treeAt (now (nodes .entry)) 16 k)) && treeNamed trees (program (tablesOf (now (size .entry)) (now (nodes .entry)) R D L B)) (treeOf (treeAt (now (nodes .entry)) 16 (afterOf (treeAt (now (nodes .entry)) 16 k)))))) ⌝ }
 {
-    let x = there_at(size, nodes, Limits::DEPTH, k);
-    if x == 0 {
-        return false;
+    if trees {
+        let x = there_at(size, nodes, Limits::DEPTH, k);
+        if x == 0 {
+            return false;
+        }
+        let next = x - 1;
+        tree_there(size, nodes, true, next)
+    } else {
+        true
     }
-    let next = x - 1;
-    tree_there(size, nodes, next)
 }
 
 // ---- lines
 
-// The label and the variable are read whether the line's kind has a use for them or not: they are something in every table. A tree is walked only where the line has one.
+// The label and the variable are read whether the line's kind has a use for them or not: they are something in every table. A tree is walked only where the line has one, and trees are looked at.
 fn stmt_there(
     size: &[u32; 6],
     nodes: &[u64; 4096],
     labels: &[u64; 6208],
     body: &[u32; 2560],
+    trees: bool,
     s: Stored,
 ) -> bool
-    ensures { λ b. ⌜ ((R D : List ℕ) → b ≡ stmtThere (program (tablesOf (now (size .entry)) (now (nodes .entry)) R D (now (labels .entry)) (now (body .entry)))) (stmtOf (now (nodes .entry)) (wayOf (s .kind)) (s .label) (s .variable) (s .word) (s .node))) ⌝ }
+    ensures { λ b. ⌜ ((R D : List ℕ) → b ≡ stmtNamed trees (program (tablesOf (now (size .entry)) (now (nodes .entry)) R D (now (labels .entry)) (now (body .entry)))) (stmtOf (now (nodes .entry)) (wayOf (s .kind)) (s .label) (s .variable) (s .word) (s .node))) ⌝ }
 {
     let kind = s.kind;
     let l = s.label as usize;
@@ -220,14 +230,14 @@ fn stmt_there(
     let n = program::var_count(size);
     let var = v < n;
     match kind {
-        1 => both(var, tree_there(size, nodes, k)),
-        2 => trees_there(size, nodes, k),
+        1 => both(var, tree_there(size, nodes, trees, k)),
+        2 => trees_there(size, nodes, trees, k),
         3 => label,
-        4 => both(label, tree_there(size, nodes, k)),
+        4 => both(label, tree_there(size, nodes, trees, k)),
         5 => both(label, var),
         6 => both(label, var),
         7 => both(label, var),
-        8 => tree_there(size, nodes, k),
+        8 => tree_there(size, nodes, trees, k),
         9 => label,
         _ => false,
     }
@@ -251,12 +261,13 @@ fn name_line(
     vars: &[u32; 96],
     labels: &[u64; 6208],
     body: &[u32; 2560],
+    trees: bool,
     i: usize,
 ) -> u32
-    ensures { λ n. ⌜ ((R : List ℕ) → n ≡ nameStmt (program (tablesOf (now (size .entry)) (now (nodes .entry)) R (now (vars .entry)) (now (labels .entry)) (now (body .entry)))) (stmtFrom (now (nodes .entry)) (now (body .entry)) i)) ⌝ }
+    ensures { λ n. ⌜ ((R : List ℕ) → n ≡ lineNamed trees (program (tablesOf (now (size .entry)) (now (nodes .entry)) R (now (vars .entry)) (now (labels .entry)) (now (body .entry)))) (stmtFrom (now (nodes .entry)) (now (body .entry)) i)) ⌝ }
 {
     let s = program::line_at(body, i);
-    let exists = stmt_there(size, nodes, labels, body, s);
+    let exists = stmt_there(size, nodes, labels, body, trees, s);
     let suits = line_suits(size, vars, labels, s);
     needed(4, exists, needed(5, suits, 0))
 }
@@ -309,15 +320,16 @@ fn name_body(
     vars: &[u32; 96],
     labels: &[u64; 6208],
     body: &[u32; 2560],
+    trees: bool,
     line: usize,
 ) -> Answer
     requires { ⌜ line < 1000 ⌝ }
-    ensures { λ r. ⌜ ((R : List ℕ) → r ≡ first line (map (nameStmt (program (tablesOf (now (size .entry)) (now (nodes .entry)) R (now (vars .entry)) (now (labels .entry)) (now (body .entry))))) (bodyFrom (now (size .entry)) (now (nodes .entry)) (now (body .entry))))) ⌝ }
+    ensures { λ r. ⌜ ((R : List ℕ) → r ≡ first line (map (lineNamed trees (program (tablesOf (now (size .entry)) (now (nodes .entry)) R (now (vars .entry)) (now (labels .entry)) (now (body .entry))))) (bodyFrom (now (size .entry)) (now (nodes .entry)) (now (body .entry))))) ⌝ }
 {
     let n = program::line_count(size);
     let mut i = 0;
     while i < n {
-        let a = name_line(size, nodes, vars, labels, body, i);
+        let a = name_line(size, nodes, vars, labels, body, trees, i);
         if a != 0 {
             return Answer {
                 number: a,
@@ -329,7 +341,7 @@ fn name_body(
     Answer { number: 0, line: 0 }
 }
 
-// The first line that is refused, `ret` being line 1.
+// The first line that is refused, `ret` being line 1. Without `trees` what expressions name is not looked at: for a caller who knows that it exists.
 pub fn named(
     size: &[u32; 6],
     nodes: &[u64; 4096],
@@ -337,8 +349,9 @@ pub fn named(
     vars: &[u32; 96],
     labels: &[u64; 6208],
     body: &[u32; 2560],
+    trees: bool,
 ) -> Answer
-    ensures { λ r. ⌜ r ≡ names (program (tablesOf (now (size .entry)) (now (nodes .entry)) (now (rows .entry)) (now (vars .entry)) (now (labels .entry)) (now (body .entry)))) ⌝ }
+    ensures { λ r. ⌜ r ≡ namesIn trees (program (tablesOf (now (size .entry)) (now (nodes .entry)) (now (rows .entry)) (now (vars .entry)) (now (labels .entry)) (now (body .entry)))) ⌝ }
 {
     let top = name_kind(size, program::ret_kind(size));
     if top != 0 {
@@ -359,5 +372,5 @@ pub fn named(
         return of_vars;
     }
     let from_body = from_vars + program::var_count(size);
-    name_body(size, nodes, vars, labels, body, from_body)
+    name_body(size, nodes, vars, labels, body, trees, from_body)
 }

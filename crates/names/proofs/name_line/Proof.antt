@@ -1,6 +1,6 @@
 -- `names::name_line` meets its contract. Assumes nothing.
 use Rattle.names.proofs.Laws.{stored-line}
-use Rattle.rules.specs.Names.{nameStmt}
+use Rattle.names.specs.Trees.{lineNamed}
 use mathlib.Core.Path.{_∙_, ap, ap₂}
 use mathlib.Core.Bool.{Bool}
 use Rattle.rules.specs.When.{need}
@@ -9,11 +9,11 @@ use Rattle.names.proofs.name_line.Statement.{statement}
 use Rattle.names.proofs.name_line.Tie as tie
 
 returns : tie.Need-returns
-unfolding nameStmt
+unfolding lineNamed
 returns c R = rw (stored-line _ _ _ _ (c .before .before .before .before .line-at .ensures)) (c .needed2 .ensures ∙ ap₂ (need 4) (c .before .before .before .stmt-there .ensures R _) (c .before .needed .ensures ∙ ap (λ (b : Bool). need 5 b 0) (c .before .before .line-suits .ensures _ R (c .before .before .before .before .before .args .body .now))))
 
 pub name-line-spec : {M : Type 1} → statement M
-unfolding nameStmt
+unfolding lineNamed
 name-line-spec =
     tie.close
     (tie.spec

@@ -1,7 +1,7 @@
 -- `names::stmt_there` meets its contract. Assumes nothing.
 use Rattle.names.proofs.Laws.{way-none}
 use Rattle.program.proofs.Walk.{with-one, with-two}
-use Rattle.rules.specs.Names.{stmtThere}
+use Rattle.names.specs.Trees.{stmtNamed}
 use Rattle.rules.specs.Numbers.{numCode}
 use Rattle.rules.specs.Program.{Stmt}
 use Rattle.rules.specs.View.{program, stmtOf, treeAt, wayOf}
@@ -11,7 +11,7 @@ use Rattle.names.proofs.stmt_there.Statement.{statement}
 use Rattle.names.proofs.stmt_there.Tie as tie
 
 pub stmt-there-spec : {M : Type 1} → statement M
-unfolding wayOf stmtOf stmtThere program
+unfolding wayOf stmtOf stmtNamed program
 stmt-there-spec =
     tie.close
     (tie.spec

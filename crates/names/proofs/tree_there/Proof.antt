@@ -11,4 +11,5 @@ tree-there-spec =
     tie.close
     (tie.spec
     (λ c κs. search needs)  -- there-at-requires
-    (λ c. λ R D L B. let a = c .before .args in tree-test (program (tablesOf (a .size .now) (a .nodes .now) R D L B)) (a .nodes .now) 16 (a .k) _ (c .there-at .ensures R D L B)))  -- returns
+    (λ c R D L B. let a = c .before .before .args in rw (c .before .if1 .taken) (tree-test (program (tablesOf (a .size .now) (a .nodes .now) R D L B)) (a .nodes .now) 16 (a .k) _ (c .there-at .ensures R D L B)))  -- returns
+    (λ c R D L B. rw (c .if1 .left)))  -- returns-2

@@ -12,7 +12,8 @@ trees-there-spec =
     tie.close
     (tie.spec
     (λ c κs. search needs)  -- there-at-requires
-    (λ c. λ R D L B. let a = c .before .before .args in rw (tree-not (program (tablesOf (a .size .now) (a .nodes .now) R D L B)) (a .nodes .now) 16 (a .k) _ (c .before .there-at .ensures R D L B) (c .if1 .taken)) refl)  -- returns
+    (λ c R D L B. let a = c .before .before .before .args in rw (c .before .before .if1 .taken, tree-not (program (tablesOf (a .size .now) (a .nodes .now) R D L B)) (a .nodes .now) 16 (a .k) _ (c .before .there-at .ensures R D L B) (c .if2 .taken)) refl)  -- returns
     (λ c. search needs)  -- sub-next
     (λ c κs. search needs)  -- tree-there-requires
-    (λ c. λ R D L B. let a = c .before .before .before .args in let w = tree-is (program (tablesOf (a .size .now) (a .nodes .now) R D L B)) (a .nodes .now) 16 (a .k) _ (c .before .before .there-at .ensures R D L B) (c .before .if1 .left) in rw (w .0, sym (w .1)) (c .tree-there .ensures R D L B)))  -- returns-2
+    (λ c R D L B. let a = c .before .before .before .before .args in let w = tree-is (program (tablesOf (a .size .now) (a .nodes .now) R D L B)) (a .nodes .now) 16 (a .k) _ (c .before .before .there-at .ensures R D L B) (c .before .if2 .left) in rw (c .before .before .before .if1 .taken, w .0, sym (w .1)) (c .tree-there .ensures R D L B))  -- returns-2
+    (λ c R D L B. rw (c .if1 .left)))  -- returns-3

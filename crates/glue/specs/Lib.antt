@@ -1,2 +1,0 @@
--- The definitions that this crate's contracts name, and the laws about them.
-pub mod Named
