@@ -14,7 +14,7 @@ use Rattle.rules.specs.declared.Psi.the-variants.{Inf, Upto}
 use Rattle.rules.specs.declared.Tag.{Tag}
 use Rattle.rules.specs.Numbers.{among, suits}
 use Rattle.rules.specs.Text.Layout.{Tables}
-use Rattle.rules.specs.Program.{Prog, Row, Rows, Expr, step, fetch, lit, Stmt, badS, setS, putS, gotoS, ifS, ifimmS, iftagS, ifintS, returnS, labelS, rowAt, psiOf, rowThere}
+use Rattle.rules.specs.Program.{Prog, Row, Rows, Expr, Stmt, badS, setS, putS, gotoS, ifS, ifimmS, iftagS, ifintS, returnS, labelS, rowAt, psiOf, rowThere}
 use Rattle.rules.specs.View.{program}
 use Rattle.rules.specs.Names.{exprThere, stmtThere, names}
 use Rattle.rules.specs.Environments.{withEntry, labelEnv, startEnv, coversEnv}

@@ -7,9 +7,9 @@ ghost use Rattle.rules.specs.Program.{psiOf, prodsOf, fieldsOf, fieldOf, kindAt
 ghost use Rattle.rules.specs.Environments.{noVar, coversEnv};
 ghost use Rattle.rules.specs.Text.Layout.{cell, rowWidth, varWidth, labelWidth, zeros};
 ghost use Rattle.rules.specs.Text.Fill.{putVar, putField, putLine, putEntry};
-ghost use Rattle.rules.specs.View.{psiCode, kindCode, entryFrom, formOf, rowsFrom, varsFrom, labelsFrom, bodyFrom, program};
+ghost use Rattle.rules.specs.View.{tab, psiCode, kindCode, entryFrom, formOf, rowsFrom, varsFrom, labelsFrom, bodyFrom, program};
 ghost use Rattle.program.specs.Lines.{storedAt, isLabelLine, tablesOf};
-ghost use Rattle.program.specs.Labels.{envFrom, codesFrom};
+ghost use Rattle.program.specs.Labels.{Whole, envFrom, codesFrom};
 ghost use Rattle.program.specs.Nodes.{arity, leafAt};
 use rules::Boxed;
 use rules::Entry;
@@ -269,18 +269,29 @@ pub fn label_entry(size: &[u32; 6], labels: &[u64; 6208], l: usize, v: usize) ->
     }
 }
 
-// The numbers of label l's entries, as they stand. Of a label that is absent, those in its place.
-pub fn label_codes(labels: &[u64; 6208], l: usize) -> [u64; 96]
-    ensures { λ r. ⌜ r ≡ codesFrom (now (labels .entry)) l ⌝ }
+// 96 numbers side by side, all of them in the table or none: so the table's end is tested once and not for each of them.
+fn side_by_side(t: &[u64], first: usize) -> [u64; 96]
+    requires { ⌜ Whole (length (now t)) first ⌝ }
+    ensures { λ r. ⌜ r ≡ tab 96 (λ k. getD (now (t .entry)) (first + k) 0) ⌝ }
 {
     let mut codes = [0u64; 96];
+    if t.len() <= first {
+        return codes;
+    }
     let mut k = 0;
     while k < 96 {
-        let x = label_cell(labels, l, k + 1);
-        codes[k] = x;
+        codes[k] = t[first + k];
         k += 1;
     }
     codes
+}
+
+// The numbers of label l's entries, as they stand after the kept line. Of a label that is absent, those in its place.
+pub fn label_codes(labels: &[u64; 6208], l: usize) -> [u64; 96]
+    ensures { λ r. ⌜ r ≡ codesFrom (now (labels .entry)) l ⌝ }
+{
+    let line = table::least(l, Limits::LABELS) * LABEL_WIDTH;
+    side_by_side(labels, line + 1)
 }
 
 // Whether label l's environment covers another, over as many variables as that one has. Past 32 both have the entry that covers itself.

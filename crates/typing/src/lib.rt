@@ -12,7 +12,7 @@ ghost use Rattle.rules.specs.Typing.{arithTag, arithKinds, suitsTag, valOf, imm
 ghost use Rattle.number.specs.Places.{indexIn};
 ghost use Rattle.program.specs.Nodes.{arity};
 ghost use Rattle.coded.specs.Coded.{envOf};
-ghost use Rattle.typing.specs.Walk.{form, found, foundAt};
+ghost use Rattle.typing.specs.Walk.{tagOnly, within, form, found, foundAt};
 ghost use Rattle.rules.specs.declared.Env.{Env};
 use number::Index;
 use rules::Addr;
@@ -394,18 +394,44 @@ fn one_operand(size: &[u32; 6], rows: &[u32; 17536], op: u32, a: u32, x: Judged)
     }
 }
 
-fn two_operands(size: &[u32; 6], rows: &[u32; 17536], op: u32, x: Judged, y: Judged) -> Judged
-    requires { ⌜ (arity (formOf op) ≡ 0 → ⊥) × (arity (formOf op) ≡ 1 → ⊥) ⌝ }
-    ensures { λ j. ⌜ ((D : List Var) (Γ : Env) (a : ℕ) → j ≡ form (rowsFrom (now (size .entry)) (now (rows .entry))) D Γ (formOf op) a x y) ⌝ }
+// Of an operand of arithmetic: whether it is an int, and its tag. Nothing else of it plays a part.
+fn tag_only(x: Judged) -> Judged
+    ensures { λ j. ⌜ j ≡ tagOnly x ⌝ }
+{
+    match x {
+        Judged::No(n) => Judged::No(n),
+        Judged::Ok(k, e) => {
+            let t = e.tag;
+            match k {
+                Kind::Value(_) => Judged::Ok(Kind::Value(0), entry::int_entry(t)),
+                Kind::Cint => Judged::Ok(Kind::Cint, entry::int_entry(t)),
+            }
+        }
+    }
+}
+
+fn two_ints(op: u32, x: Judged, y: Judged) -> Judged
+    requires { ⌜ (6 < op) × (arity (formOf op) ≡ 0 → ⊥) ⌝ }
+    ensures { λ j. ⌜ ((ρ : Rows) (D : List Var) (Γ : Env) (a : ℕ) (v : Judged) → x ≡ tagOnly v → j ≡ form ρ D Γ (formOf op) a v y) ⌝ }
 {
     match op {
-        6 => ty_step(size, rows, x, y),
         7 => ty_arith(Op::Add, x, y),
         8 => ty_arith(Op::Sub, x, y),
         9 => ty_arith(Op::Mul, x, y),
         10 => ty_arith(Op::Eq, x, y),
         11 => ty_arith(Op::Lt, x, y),
         _ => Judged::No(4),
+    }
+}
+
+// Whether a node can stand there: within the depth, and before the last node's place.
+fn is_within(depth: usize, at: usize) -> bool
+    ensures { λ b. ⌜ b ≡ within depth at ⌝ }
+{
+    if depth == 0 {
+        false
+    } else {
+        at < Limits::NODES
     }
 }
 
@@ -452,7 +478,7 @@ fn operand(
     walk(size, rows, vars, nodes, codes, count, depth, at)
 }
 
-// What the expression at a node is judged as. Past the depth and past the last node nothing is there (4).
+// What the expression at a node is judged as. Past the depth and past the last node nothing is there (4). Arithmetic is told from the other forms before its operands are judged: of the first no more than its tag is then kept while the second is judged.
 fn walk(
     size: &[u32; 6],
     rows: &[u32; 17536],
@@ -465,29 +491,32 @@ fn walk(
 ) -> Found
     ensures { λ f. ⌜ f ≡ foundAt (rowsFrom (now (size .entry)) (now (rows .entry))) (varsFrom (now (size .entry)) (now (vars .entry))) (envOf (now (codes .entry)) count) (now (nodes .entry)) depth at ⌝ }
 {
-    if depth == 0 {
-        return gives(Judged::No(4), at);
-    }
-    if Limits::NODES <= at {
+    if !is_within(depth, at) {
         return gives(Judged::No(4), at);
     }
     let op = program::operation(nodes, at);
-    let a = program::argument(nodes, at);
     let n = program::operands(op);
-    let first = at + 1;
     if n == 0 {
-        return gives(leaf(size, vars, codes, count, op, a), first);
+        return gives(leaf_at(size, vars, nodes, codes, count, at), at + 1);
     }
-    let x = operand(size, rows, vars, nodes, codes, count, depth - 1, first);
+    let x = operand(size, rows, vars, nodes, codes, count, depth - 1, at + 1);
     let v = x.judged;
     let second = x.next;
+    if 6 < op {
+        let t = tag_only(v);
+        let y = operand(size, rows, vars, nodes, codes, count, depth - 1, second);
+        let u = y.judged;
+        let after = y.next;
+        return gives(two_ints(op, t, u), after);
+    }
     if n == 1 {
+        let a = program::argument(nodes, at);
         return gives(one_operand(size, rows, op, a, v), second);
     }
     let y = operand(size, rows, vars, nodes, codes, count, depth - 1, second);
     let u = y.judged;
     let after = y.next;
-    gives(two_operands(size, rows, op, v, u), after)
+    gives(ty_step(size, rows, v, u), after)
 }
 
 // What the expression at a node is judged as, in the environment that the codes stand for, and the node after it.

@@ -1,40 +1,40 @@
--- `label_codes`: what is left to enter gives what all 96 numbers give. Assumes nothing.
-use Prim.Native.Nat.{ℕ, _+_, _-_, _≤_}
+-- `label_codes`: past the last label none of its numbers is in the table. Assumes nothing.
+use Prim.Native.Nat.{ℕ, _+_, _*_, _<_, min}
+use lib.ListN.{getD, length, List·getD-eq-default}
 use mathlib.Core.List.{List}
-use Rattle.program.proofs.Places.{entered, numbers-all, entered-end, entered-step}
-use Rattle.program.specs.Labels.{codesFrom}
-use Rattle.rules.specs.Text.Layout.{cell, labelWidth}
-use mathlib.Core.Path.{_∙_, _≡_, refl, sym}
+use mathlib.Core.Logic.{inl, inr}
+use mathlib.Core.Path.{_∙_, _≡_, ap}
+use native.Mathlib.Decide.{decLt}
 use native.Mathlib.Omega.{arith}
 use borrow.Author.Needs.{needs}
+use Rattle.rules.specs.Text.Layout.{cell, labelWidth}
+use Rattle.rules.specs.View.{tab}
+use Rattle.rules.specs.Laws.Lists.{tab-ext}
+use Rattle.table.proofs.Laws.{clamped}
+use Rattle.program.specs.Labels.{Whole, codesFrom}
 use Rattle.program.proofs.label_codes.Statement.{statement}
 use Rattle.program.proofs.label_codes.Tie as tie
 
-abbrev at : List ℕ → ℕ → ℕ → ℕ
-at L l k = cell L labelWidth l (k + 1)
+-- a label's numbers are all in the table, or past its end
+in-or-past : (n l m : ℕ) → n ≡ 6208 → m ≡ min l 64 → Whole n (m * 97 + 1)
+in-or-past n l m s e = by (decLt l 64)
+  where
+    by : Dec (l < 64) → Whole n (m * 97 + 1)
+    by (yes h) = inr (omega (arith, s, e, h))
+    by (no h) = inl (omega (arith, s, e, h))
 
-abbrev Inv-loop : tie.InvT-loop
-Inv-loop labels l codes₀ k₀ codes k = (k ≤ 96) × (entered (96 - k) k (at labels l) codes ≡ entered 96 0 (at labels l) codes₀)
-
-abbrev μ-loop : tie.MeasureT-loop
-μ-loop labels l codes₀ k₀ codes k = 96 - k
-
-loop-again : tie.Need-loop-again Inv-loop μ-loop
-loop-again c = (omega arith, entered-step _ _ _ _ _ (c .before .loop-test .taken) (c .label-cell .ensures) ∙ c .before .before .loop .inv .1)
+as-they-stand : (L : List ℕ) (l m : ℕ) → length L ≡ 6208 → m ≡ min l 64 → tab 96 (λ k. getD L (m * 97 + 1 + k) 0) ≡ tab 96 (λ k. cell L labelWidth l (k + 1))
+as-they-stand L l m s e =
+    tab-ext 96 _ _
+    (λ k h. let q : m * 97 + 1 + k ≡ m * 97 + (k + 1) = omega arith in ap (λ (i : ℕ). getD L i 0) q ∙ clamped (λ (u : ℕ). cell L labelWidth u (k + 1)) 0 64 l m e (λ u g. List·getD-eq-default L 0 (omega (arith, s, g))))
 
 pub label-codes-spec : {M : Type 1} → statement M
 unfolding codesFrom
 label-codes-spec =
     tie.close
     (tie.spec
-    Inv-loop
-    μ-loop
-    (λ c. (omega arith, refl))  -- loop-holds
-    (λ c. search needs)  -- add-label-cell
-    (λ c κs. search needs)  -- label-cell-requires
-    (λ c. search needs)  -- mul-codes
-    (λ c. search needs)  -- array-write-codes
-    (λ c. search needs)  -- add-k
-    (λ c. search needs)  -- loop-less
-    loop-again
-    (λ c. sym (entered-end _ _ _ _ (c .loop-test .left)) ∙ c .before .loop .inv .1 ∙ numbers-all (at (c .before .before .args .labels .now) (c .before .before .args .l))))  -- returns
+    (λ c κs. search needs)  -- least-requires
+    (λ c. search needs)  -- mul-line
+    (λ c. search needs)  -- add-side-by-side
+    (λ c κs. in-or-past _ _ _ (c .side-by-side-arg .given .0) (c .before .least .ensures))  -- side-by-side-requires
+    (λ c. let a = c .before .before .before .args in c .side-by-side .ensures ∙ as-they-stand (a .labels .now) (a .l) _ (c .before .side-by-side-arg .given .0) (c .before .before .least .ensures)))  -- returns
