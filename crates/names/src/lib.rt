@@ -211,7 +211,7 @@ fn trees_there(size: &[u32; 6], nodes: &[u64; 4096], trees: bool, k: usize) -> b
 
 // ---- lines
 
-// The label and the variable are read whether the line's kind has a use for them or not: they are something in every table. A tree is walked only where the line has one, and trees are looked at.
+// The label and the variable are read whether the line's kind has a use for them or not: they are something in every table. A tree is walked only where the line has one and trees are looked at.
 fn stmt_there(
     size: &[u32; 6],
     nodes: &[u64; 4096],

@@ -5,14 +5,21 @@ use native.Mathlib.Omega.{arith}
 use lib.ListN.{drop-of-length-le}
 use lib.Seq.{drop-cons}
 use borrow.Author.Tests.{lt-ltb, le-ltb, eq-eqb, ne-eqb}
-use Rattle.rules.specs.Prelude.{ℕ, suc, _+_, _-_, _*_, _<_, _≤_, max, List, _≡_, refl, sym, ap, _∙_, eqb, length, getD, drop}
+use Rattle.rules.specs.Prelude.{ℕ, suc, _+_, _-_, _*_, _<_, _≤_, max, Bool, true, false, _&&_, not, List, _≡_, refl, sym, ap, _∙_, eqb, length, getD, drop}
 use Rattle.rules.specs.declared.Reading.{Reading}
 use Rattle.rules.specs.declared.Reading.the-variants.{Got, Bad}
 use Rattle.rules.specs.declared.Next.the-variants as N
 use Rattle.rules.specs.declared.Head.the-variants.{Node, Not}
+use Rattle.rules.specs.When.{when}
 use Rattle.rules.specs.Laws.Tests.{by-when}
 use Rattle.text.proofs.Laws.{inside, getD-any}
 use Rattle.rules.specs.Text.Words.{byteAt, moreDigits, magnitudeAt, plainAt, minus, numberAt, agreed, orWord, byteIs, varAt, operatorAt, headOf, operatorHead, headAt}
+
+-- one of two, by two tests
+choice : {A : Type 0} (x y : Bool) (o w : A) (v : Bool) → v ≡ (x && not y) → when x (λ _. when y (λ _. o) (λ _. w)) (λ _. o) ≡ when v (λ _. w) (λ _. o)
+choice true true o w v e = rw e
+choice true false o w v e = rw e
+choice false y o w v e = rw e
 
 -- ---- digits, at i
 
@@ -151,19 +158,15 @@ module _ (s : List ℕ) (at : ℕ) {b : ℕ} (e : b ≡ byteAt s at) where
   unfolding headAt
   head-number h = rw (← e, lt-ltb b 58)
 
-  module _ (h : 58 ≤ b) where
-    pub head-operator : (b ≡ 118 → ⊥) → headAt s at ≡ operatorHead s (operatorAt s at)
+  -- what is no number: a variable or an operator
+  module _ (h : 58 ≤ b) {v : Bool} (q : v ≡ (eqb (byteAt s at) 118 && not (eqb (byteAt s (at + 1)) 97))) where
+    pub head-variable : v ≡ true → headAt s at ≡ headOf 2 (varAt s at)
     unfolding headAt
-    head-operator n = rw (← e, le-ltb b 58, ne-eqb b 118)
+    head-variable t = rw (le-ltb (byteAt s at) 58 (rw e at h)) (choice (eqb (byteAt s at) 118) (eqb (byteAt s (at + 1)) 97) _ _ v q ∙ rw t)
 
-    module _ (v : b ≡ 118) {x : ℕ} (f : x ≡ byteAt s (at + 1)) where
-      pub head-val : x ≡ 97 → headAt s at ≡ operatorHead s (operatorAt s at)
-      unfolding headAt
-      head-val g = rw (← e, ← f, le-ltb b 58, eq-eqb b 118 v, eq-eqb x 97)
-
-      pub head-variable : (x ≡ 97 → ⊥) → headAt s at ≡ headOf 2 (varAt s at)
-      unfolding headAt
-      head-variable n = rw (← e, ← f, le-ltb b 58, eq-eqb b 118 v, ne-eqb x 97)
+    pub head-operator : v ≡ false → headAt s at ≡ operatorHead s (operatorAt s at)
+    unfolding headAt
+    head-operator t = rw (le-ltb (byteAt s at) 58 (rw e at h)) (choice (eqb (byteAt s at) 118) (eqb (byteAt s (at + 1)) 97) _ _ v q ∙ rw t)
 
 pub no-val : (s : List ℕ) (op n : ℕ) → (op ≡ 5 → ⊥) → operatorHead s (Got op n) ≡ Node op 0 n
 no-val s op n h = rw (ne-eqb op 5)

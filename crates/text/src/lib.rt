@@ -3,7 +3,9 @@ use rules::Head;
 use rules::Next;
 use rules::Reading;
 ghost use mathlib.Core.Path.{_≡_};
-ghost use Prim.Native.Nat.{ℕ, _≤_, _<_, max};
+ghost use Prim.Native.Nat.{ℕ, _+_, _≤_, _<_, max};
+ghost use mathlib.Core.Bool.{_&&_, not};
+ghost use lib.Dec.{eqb};
 ghost use lib.ListN.{drop};
 ghost use Rattle.rules.specs.Text.Words as words;
 
@@ -254,19 +256,25 @@ fn operator_head(s: &[u8], at: usize) -> Head
     }
 }
 
-// The first word of an expression.
+// Whether a variable begins: at `v`, but not at the `va` of `val`.
+fn begins_variable(s: &[u8], at: usize) -> bool
+    ensures { λ b. ⌜ b ≡ (eqb (words.byteAt (now (s .entry)) at) 118 && not (eqb (words.byteAt (now (s .entry)) (at + 1)) 97)) ⌝ }
+{
+    if byte_at(s, at) != 118 {
+        return false;
+    }
+    byte_at(s, at + 1) != 97
+}
+
+// The first word of an expression. An operator is read at one place only: so it is compiled in place, and no head is copied.
 pub fn head_at(s: &[u8], at: usize) -> Head
     ensures { λ r. ⌜ r ≡ words.headAt (now (s .entry)) at ⌝ }
 {
-    let b = byte_at(s, at);
-    if b < 58 {
+    if byte_at(s, at) < 58 {
         return head_of(1, number_at(s, at));
     }
-    if b != 118 {
-        return operator_head(s, at);
+    if begins_variable(s, at) {
+        return head_of(2, var_at(s, at));
     }
-    if byte_at(s, at + 1) == 97 {
-        return operator_head(s, at);
-    }
-    head_of(2, var_at(s, at))
+    operator_head(s, at)
 }

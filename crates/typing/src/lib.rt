@@ -410,6 +410,7 @@ fn tag_only(x: Judged) -> Judged
     }
 }
 
+// Arithmetic, whose operations are those past `step`; of the first operand the tag alone is given.
 fn two_ints(op: u32, x: Judged, y: Judged) -> Judged
     requires { ⌜ (6 < op) × (arity (formOf op) ≡ 0 → ⊥) ⌝ }
     ensures { λ j. ⌜ ((ρ : Rows) (D : List Var) (Γ : Env) (a : ℕ) (v : Judged) → x ≡ tagOnly v → j ≡ form ρ D Γ (formOf op) a v y) ⌝ }
@@ -424,7 +425,7 @@ fn two_ints(op: u32, x: Judged, y: Judged) -> Judged
     }
 }
 
-// Whether a node can stand there: within the depth, and before the last node's place.
+// Whether a node can stand there: within the depth, and within the table.
 fn is_within(depth: usize, at: usize) -> bool
     ensures { λ b. ⌜ b ≡ within depth at ⌝ }
 {
@@ -478,7 +479,7 @@ fn operand(
     walk(size, rows, vars, nodes, codes, count, depth, at)
 }
 
-// What the expression at a node is judged as. Past the depth and past the last node nothing is there (4). Arithmetic is told from the other forms before its operands are judged: of the first no more than its tag is then kept while the second is judged.
+// What the expression at a node is judged as. Past the depth and past the last node nothing is there (4). Arithmetic is told from `step` before the second operand is judged: of the first no more than its tag is then kept.
 fn walk(
     size: &[u32; 6],
     rows: &[u32; 17536],
