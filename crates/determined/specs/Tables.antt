@@ -98,6 +98,9 @@ program-argument κs a x y s t = result
 pub program-operands : Determined program.operands.ended program.operands.Reads.Learnt
 program-operands κs a x y s t = result
 
+pub program-is-within : Determined program.is_within.ended program.is_within.Reads.Learnt
+program-is-within κs a x y s t = result
+
 pub program-is-leaf : Determined program.is_leaf.ended program.is_leaf.Reads.Learnt
 program-is-leaf κs a x y s t = result
 

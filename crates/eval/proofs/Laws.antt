@@ -13,7 +13,7 @@ use Rattle.rules.specs.declared.Datum.the-variants.{Place}
 use Rattle.rules.specs.declared.Given.{Given}
 use Rattle.rules.specs.declared.Given.the-variants.{Stuck, Has}
 use Rattle.rules.specs.When.{need}
-use Rattle.rules.specs.View.{none, litF, varF, fetchF, intF, valF, stepF, calc, treeOf, treeAt}
+use Rattle.rules.specs.View.{formOf, none, litF, varF, fetchF, intF, valF, stepF, calc, treeOf, treeAt}
 use Rattle.rules.specs.Program.{Rows}
 use Rattle.rules.specs.Machine.{Store, cellsIn, inside, cellAt, evArith, evVal, evInt, evFetch, moved, evStep, eval}
 use Rattle.number.specs.declared.Index.{Index}
@@ -77,6 +77,10 @@ folds ρ σ δ intF a p q x y ex ey = ap evInt (sym (ex (omega lin)))
 folds ρ σ δ valF a p q x y ex ey = ap (evVal ρ a) (sym (ex (omega lin)))
 folds ρ σ δ stepF a p q x y ex ey = ap₂ (evStep σ) (sym (ex (omega lin))) (sym (ey (omega lin)))
 folds ρ σ δ (calc o) a p q x y ex ey = ap₂ (evArith o) (sym (ex (omega lin))) (sym (ey (omega lin)))
+
+pub step-form : (ρ : Rows) (σ : Store) (δ : List Given) (op a : ℕ) (x y : Given) → formOf op ≡ stepF → evStep σ x y ≡ form ρ σ δ (formOf op) a x y
+unfolding form
+step-form ρ σ δ op a x y e = rw e
 
 -- what a walk gave is what the tree gives, and the node after it
 module _ (ρ : Rows) (σ : Store) (δ : List Given) (N : List ℕ) (d k : ℕ) (g : Gave) (e : g ≡ gaveAt ρ σ δ N d k) where

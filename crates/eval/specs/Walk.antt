@@ -1,6 +1,7 @@
 -- What the tree at a node gives in the machine, with the node after it; and what a node gives, from what its operands give. Assumes nothing.
-use Rattle.rules.specs.Prelude.{ℕ, List}
-use Rattle.rules.specs.declared.Datum.the-variants.{Int}
+use Rattle.rules.specs.Prelude.{ℕ, List, _≡_, refl}
+use Rattle.rules.specs.declared.Datum.the-variants.{Int, Imm, Place}
+use Rattle.rules.specs.declared.Op.{Op}
 use Rattle.rules.specs.declared.Given.{Given}
 use Rattle.rules.specs.declared.Given.the-variants.{Stuck, Has}
 use Rattle.rules.specs.Numbers.{numCode}
@@ -9,6 +10,20 @@ use Rattle.rules.specs.View.{Form, none, litF, varF, fetchF, intF, valF, stepF,
 use Rattle.rules.specs.Machine.{Store, evVar, evArith, evVal, evInt, evFetch, evStep, eval}
 use Rattle.program.specs.Nodes.{afterOf}
 use Rattle.eval.specs.declared.Gave.{Gave}
+
+-- of an operand of arithmetic, what plays a part: the int that it is
+abbrev pub intOnly : Given → Given
+intOnly Stuck = Stuck
+intOnly (Has (Int n)) = Has (Int n)
+intOnly (Has (Imm n)) = Stuck
+intOnly (Has (Place b o)) = Stuck
+
+pub arith-ints : (o : Op) (x y : Given) → evArith o (intOnly x) y ≡ evArith o x y
+unfolding evArith
+arith-ints o Stuck y = refl
+arith-ints o (Has (Int n)) y = refl
+arith-ints o (Has (Imm n)) y = refl
+arith-ints o (Has (Place b i)) y = refl
 
 -- what a node gives, from its argument and what its operands give
 unfoldable pub form : Rows → Store → List Given → Form → ℕ → Given → Given → Given

@@ -11,7 +11,7 @@ ghost use Rattle.rules.specs.View.{rowsFrom, varsFrom, formOf};
 ghost use Rattle.rules.specs.Machine.{Store, evVar, evArith, evVal, evInt, evFetch, moved, evStep};
 ghost use Rattle.rules.specs.Machine.Tables.{storeOf, valsOf};
 ghost use Rattle.program.specs.Nodes.{arity};
-ghost use Rattle.eval.specs.Walk.{form, gave, gaveAt};
+ghost use Rattle.eval.specs.Walk.{intOnly, form, gave, gaveAt};
 use number::Index;
 use rules::Datum;
 use rules::Given;
@@ -149,7 +149,7 @@ pub fn var_given(size: &[u32; 6], vals: &[u64; 32], v: usize) -> Given
     storage::val_at(program::var_count(size), vals, v)
 }
 
-// The forms by how many operands they have: each is one call of the walk, with what the operands give.
+// The forms by how many operands they have, with what the operands give.
 
 // A number or a variable; no other operation that has no operands gives anything.
 fn leaf(size: &[u32; 6], vals: &[u64; 32], op: u32, a: u32) -> Given
@@ -183,12 +183,26 @@ fn one_operand(
     }
 }
 
-fn two_operands(store: &[u32; 2], heads: &[u32; 768], op: u32, x: Given, y: Given) -> Given
-    requires { ⌜ (arity (formOf op) ≡ 0 → ⊥) × (arity (formOf op) ≡ 1 → ⊥) ⌝ }
-    ensures { λ g. ⌜ ((ρ : Rows) (C W : List ℕ) (n a : ℕ) → g ≡ form ρ (storeOf (now (store .entry)) (now (heads .entry)) C) (valsOf n W) (formOf op) a x y) ⌝ }
+// Of an operand of arithmetic: the int that it is. Anything else is as good as nothing.
+fn int_only(x: Given) -> Given
+    ensures { λ g. ⌜ g ≡ intOnly x ⌝ }
+{
+    match x {
+        Given::Stuck => Given::Stuck,
+        Given::Has(d) => match d {
+            Datum::Int(n) => Given::Has(Datum::Int(n)),
+            Datum::Imm(_) => Given::Stuck,
+            Datum::Place(_, _) => Given::Stuck,
+        },
+    }
+}
+
+// Arithmetic, whose operations are those past `step`; of the first operand the int alone is given.
+fn two_ints(op: u32, x: Given, y: Given) -> Given
+    requires { ⌜ (6 < op) × (arity (formOf op) ≡ 0 → ⊥) ⌝ }
+    ensures { λ g. ⌜ ((ρ : Rows) (σ : Store) (δ : List Given) (a : ℕ) (v : Given) → x ≡ intOnly v → g ≡ form ρ σ δ (formOf op) a v y) ⌝ }
 {
     match op {
-        6 => ev_step(store, heads, x, y),
         7 => ev_arith(Op::Add, x, y),
         8 => ev_arith(Op::Sub, x, y),
         9 => ev_arith(Op::Mul, x, y),
@@ -234,7 +248,7 @@ fn operand(
     walk(size, nodes, vals, depth, at, store, heads, cells)
 }
 
-// What the expression at a node gives. Past the depth and past the last node nothing is there, and it is stuck.
+// What the expression at a node gives. Past the depth and past the last node nothing is there, and it is stuck. Arithmetic is told from `step` before the second operand is evaluated: of the first no more than its int is then kept.
 // What every expression needs comes first among the parameters, and is handed on in registers.
 fn walk(
     size: &[u32; 6],
@@ -248,32 +262,32 @@ fn walk(
 ) -> Gave
     ensures { λ g. ⌜ ((R D : List ℕ) → g ≡ gaveAt (rowsFrom (now (size .entry)) R) (storeOf (now (store .entry)) (now (heads .entry)) (now (cells .entry))) (valsOf (length (varsFrom (now (size .entry)) D)) (now (vals .entry))) (now (nodes .entry)) depth at) ⌝ }
 {
-    let none = Given::Stuck;
-    if depth == 0 {
-        return gives(none, at);
-    }
-    if Limits::NODES <= at {
-        return gives(none, at);
+    if !program::is_within(depth, at) {
+        return gives(Given::Stuck, at);
     }
     let op = program::operation(nodes, at);
-    let a = program::argument(nodes, at);
     let n = program::operands(op);
-    let first = at + 1;
     if n == 0 {
-        let g = leaf(size, vals, op, a);
-        return gives(g, first);
+        return gives(leaf_at(size, nodes, vals, at), at + 1);
     }
-    let x = operand(size, nodes, vals, depth - 1, first, store, heads, cells);
+    let x = operand(size, nodes, vals, depth - 1, at + 1, store, heads, cells);
     let v = x.given;
     let second = x.next;
+    if 6 < op {
+        let t = int_only(v);
+        let y = operand(size, nodes, vals, depth - 1, second, store, heads, cells);
+        let u = y.given;
+        let after = y.next;
+        return gives(two_ints(op, t, u), after);
+    }
     if n == 1 {
-        let g = one_operand(size, store, heads, cells, op, a, v);
-        return gives(g, second);
+        let a = program::argument(nodes, at);
+        return gives(one_operand(size, store, heads, cells, op, a, v), second);
     }
     let y = operand(size, nodes, vals, depth - 1, second, store, heads, cells);
     let u = y.given;
     let after = y.next;
-    gives(two_operands(store, heads, op, v, u), after)
+    gives(ev_step(store, heads, v, u), after)
 }
 
 // What the expression of a line gives, at any node of the table, and the node after it: a number or a variable in place too, any other by the walk.

@@ -1,11 +1,11 @@
 -- Numbers that name no operation and no kind of line, or no operation with so many operands; the tree at a node, from its operands' trees; and what a function of trees that goes form by form gives for it.
 -- Assumes nothing.
 use native.Mathlib.Omega.{arith as lin}
-use native.Mathlib.Decide.{decLt}
+use native.Mathlib.Decide.{decLt, ℕ-discrete}
 use native.Mathlib.Numerals.{sub-one}
-use borrow.Author.Tests.{lt-ltb, le-ltb, ltb-true, eqb-true, eq-eqb, ne-eqb}
+use borrow.Author.Tests.{lt-ltb, le-ltb, ltb-true, ltb-false, eqb-true, eq-eqb, ne-eqb}
 use mathlib.Core.Path.{_≡_, refl, sym, ap, ap₂, subst, _∙_}
-use mathlib.Core.Bool.{Bool, true, false, _&&_, _||_}
+use mathlib.Core.Bool.{Bool, true, false, _&&_, _||_, not}
 use mathlib.Core.Logic.{_⊎_, inl, inr, ⊎-elim}
 use mathlib.Core.List.{List, [], _∷_}
 use Prim.Native.Nat.{ℕ, zero, suc, _+_, _-_, _/_, _%_, _<_, _≤_}
@@ -15,7 +15,7 @@ use Rattle.rules.specs.declared.Op.the-variants as O
 use Rattle.rules.specs.Numbers.{numCode}
 use Rattle.rules.specs.Program.{Expr, bad, lit, var, arith, val, int, fetch, step, Stmt}
 use Rattle.rules.specs.View.{Form, none, litF, varF, fetchF, intF, valF, stepF, calc, formOf, Walked, walked, one, two, treeOf, treeNode, treeAt, withOne, withTwo, noW, setW, putW, gotoW, ifW, ifimmW, iftagW, ifintW, returnW, labelW, wayOf}
-use Rattle.program.specs.Nodes.{arity, afterOf, leafAt}
+use Rattle.program.specs.Nodes.{arity, afterOf, within, leafAt}
 
 -- ---- numbers that name nothing
 
@@ -91,6 +91,37 @@ two-by op (suc (suc n)) z i s = s
 
 pub two-rest : (op : ℕ) → NoneOn 5 6 op → (arity (formOf op) ≡ 0 → ⊥) × (arity (formOf op) ≡ 1 → ⊥) → ⊥
 two-rest op h q = let s = two-by op (arity (formOf op)) (q .0) (q .1) (span op) in omega (lin, past 5 6 op h (s .0), s .1)
+
+-- an operation past 6 that is one has two operands; one that has two and is not past 6 is `step`
+pub past-six : (op : ℕ) → 6 < op → (arity (formOf op) ≡ 0 → ⊥) → (arity (formOf op) ≡ 0 → ⊥) × (arity (formOf op) ≡ 1 → ⊥)
+past-six op h z = (z, one-rest op (((tt, λ q. omega (lin, q, h)), λ q. omega (lin, q, h)), λ q. omega (lin, q, h)))
+
+pub is-step : (op : ℕ) → (6 < op → ⊥) → (arity (formOf op) ≡ 0 → ⊥) → (arity (formOf op) ≡ 1 → ⊥) → formOf op ≡ stepF
+unfolding formOf
+is-step op h z i = by (ℕ-discrete op 6)
+  where
+    by : Dec (op ≡ 6) → formOf op ≡ stepF
+    by (yes e) = rw e
+    by (no n) = absurd (two-rest op ((((((tt, n), λ q. omega (lin, q, h)), λ q. omega (lin, q, h)), λ q. omega (lin, q, h)), λ q. omega (lin, q, h)), λ q. omega (lin, q, h)) (z, i))
+
+-- ---- places where a node can stand; the code asks whether it can not
+
+module _ (d k : ℕ) {b : Bool} (e : b ≡ within d k) where
+  pub is-within : not b ≡ false → (d ≡ 0 → ⊥) × (k < 4096)
+  is-within q = by (ltb 0 d) (ltb k 4096) refl refl (ap not (sym e) ∙ q)
+    where
+      by : (x y : Bool) → ltb 0 d ≡ x → ltb k 4096 ≡ y → not (x && y) ≡ false → (d ≡ 0 → ⊥) × (k < 4096)
+      by true true p q h = ((λ z. omega (lin, z, ltb-true 0 d p)), ltb-true k 4096 q)
+      by true false p q h = let x : _≡_ {A = ℕ} 0 1 = cc in absurd (omega lin)
+      by false y p q h = let x : _≡_ {A = ℕ} 0 1 = cc in absurd (omega lin)
+
+  is-beyond : not b ≡ true → (d ≡ 0) ⊎ ((d ≡ 0 → ⊥) × (4096 ≤ k))
+  is-beyond q = by (ltb 0 d) (ltb k 4096) refl refl (ap not (sym e) ∙ q)
+    where
+      by : (x y : Bool) → ltb 0 d ≡ x → ltb k 4096 ≡ y → not (x && y) ≡ true → (d ≡ 0) ⊎ ((d ≡ 0 → ⊥) × (4096 ≤ k))
+      by true true p q h = let x : _≡_ {A = ℕ} 0 1 = cc in absurd (omega lin)
+      by true false p q h = inr ((λ z. omega (lin, z, ltb-true 0 d p)), ltb-false k 4096 q)
+      by false y p q h = let x = ltb-false 0 d p in inl (omega lin)
 
 -- ---- nodes that are a tree by themselves
 
@@ -228,6 +259,9 @@ module _ {A F : Type 0} (t : Expr → A) (pack : A → ℕ → F) (N : List ℕ)
 
   pub ends-past : (d ≡ 0 → ⊥) → 4096 ≤ k → pack (t bad) k ≡ whole
   ends-past z h = let q : d ≡ suc (d - 1) = omega (lin, z) in past-by (d - 1) q h
+
+  pub ends-beyond : {b : Bool} → b ≡ within d k → not b ≡ true → pack (t bad) k ≡ whole
+  ends-beyond e q = ⊎-elim ends-deep (λ p. ends-past (p .0) (p .1)) (is-beyond d k e q)
 
   module _ (form : Form → ℕ → A → A → A) (folds : Folds t form) (o a n : ℕ) (z : d ≡ 0 → ⊥) (h : k < 4096) (eo : o ≡ getD N k 0 / 4294967296) (ea : a ≡ getD N k 0 % 4294967296) (en : n ≡ arity (formOf o)) where
     abbrev first : Walked

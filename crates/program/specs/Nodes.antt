@@ -16,6 +16,10 @@ arity (calc o) = 2
 abbrev pub afterOf : Walked → ℕ
 afterOf (walked x n) = n
 
+-- whether a node can stand at place k, where the depth left is d
+abbrev pub within : ℕ → ℕ → Bool
+within d k = ltb 0 d && ltb k (limits .nodes)
+
 -- whether a number or a variable stands at node k, where the depth left is d
 unfoldable pub leafAt : List ℕ → ℕ → ℕ → Bool
 leafAt N d k = ltb 0 d && (ltb k (limits .nodes) && (eqb (getD N k 0 / 4294967296) 1 || eqb (getD N k 0 / 4294967296) 2))

@@ -10,7 +10,7 @@ ghost use Rattle.rules.specs.Text.Fill.{putVar, putField, putLine, putEntry};
 ghost use Rattle.rules.specs.View.{tab, psiCode, kindCode, entryFrom, formOf, rowsFrom, varsFrom, labelsFrom, bodyFrom, program};
 ghost use Rattle.program.specs.Lines.{storedAt, isLabelLine, tablesOf};
 ghost use Rattle.program.specs.Labels.{Whole, envFrom, codesFrom};
-ghost use Rattle.program.specs.Nodes.{arity, leafAt};
+ghost use Rattle.program.specs.Nodes.{arity, within, leafAt};
 use rules::Boxed;
 use rules::Entry;
 use rules::Env;
@@ -348,6 +348,13 @@ pub fn operands(op: u32) -> usize
         11 => 2,
         _ => 0,
     }
+}
+
+// Whether a node can stand at place k, where so much depth is left.
+pub fn is_within(depth: usize, k: usize) -> bool
+    ensures { λ b. ⌜ b ≡ within depth k ⌝ }
+{
+    if 0 < depth { k < Limits::NODES } else { false }
 }
 
 // Whether a number or a variable stands at node k, where so much depth is left. A walk answers these in place, without a call that goes deeper.

@@ -1,13 +1,11 @@
 -- An address that is found in viewed rows is small; and an expression's judgement from those of its operands. Assumes nothing.
-use mathlib.Core.Bool.{Bool, true, false, _&&_, not}
-use mathlib.Core.Path.{_≡_, refl, sym, ap, ap₂, subst, _∙_}
+use mathlib.Core.Path.{_≡_, refl, sym, ap, ap₂, subst}
 use mathlib.Core.List.{List}
 use Prim.Native.Nat.{ℕ, _<_}
-use native.Mathlib.Decide.{ℕ-discrete}
 use native.Mathlib.Omega.{arith as lin}
-use lib.Dec.{T, ltb}
+use lib.Dec.{T}
 use lib.IntN.{ℤ, pos, negsuc, _+ℤ_}
-use borrow.Author.Tests.{ltb-true, ltb-false}
+use borrow.Author.Tests.{ltb-true}
 use Rattle.rules.specs.declared.Num.{Num}
 use Rattle.rules.specs.declared.Tag.{Tag}
 use Rattle.rules.specs.declared.Tag.the-variants as G
@@ -16,18 +14,17 @@ use Rattle.rules.specs.declared.Env.{Env}
 use Rattle.rules.specs.declared.Addr.{Addr}
 use Rattle.rules.specs.declared.Addr.the-variants as A
 use Rattle.rules.specs.declared.Judged.{Judged}
-use Rattle.rules.specs.declared.Judged.the-variants.{No}
 use Rattle.rules.specs.When.{need}
 use Rattle.rules.specs.Numbers.{among, natOf}
 use Rattle.rules.specs.Program.{Rows, Var, psiOf, prodsOf, fieldsOf}
 use Rattle.rules.specs.View.{rowsFrom, formOf, none, litF, varF, fetchF, intF, valF, stepF, calc, treeOf, treeAt}
 use Rattle.rules.specs.Typing.{Spot, nowhere, spot, spotOf, lone, addrAt, addrSpot, addressOf, tyArith, tyVal, tyInt, tyFetch, tyStep, type}
 use Rattle.rules.specs.Laws.Tests.{held, by-need}
-use Rattle.program.specs.Nodes.{arity, afterOf}
+use Rattle.program.specs.Nodes.{afterOf}
 use Rattle.program.proofs.Laws.{prods-small, fields-small}
-use Rattle.program.proofs.Walk.{Folds, one-rest, two-rest, ends-deep, ends-past}
+use Rattle.program.proofs.Walk.{Folds}
 use Rattle.typing.specs.declared.Found.{Found}
-use Rattle.typing.specs.Walk.{within, form, found, foundAt}
+use Rattle.typing.specs.Walk.{form, foundAt}
 
 -- ---- addresses
 
@@ -57,37 +54,6 @@ module _ (Z R : List ℕ) (r : ℕ) where
   near e m t o h = subst Near h (near-spot (spotOf (e .boxed) (e .offset) (e .tag) (lone (psiOf (rowsFrom Z R) r) (prodsOf (rowsFrom Z R) r))) m)
 
 -- ---- the walk
-
--- a node within the depth and the table, or nothing there; the code asks whether it is not
-module _ (d k : ℕ) {b : Bool} (e : b ≡ within d k) where
-  pub is-within : not b ≡ false → (d ≡ 0 → ⊥) × (k < 4096)
-  is-within q = by (ltb 0 d) (ltb k 4096) refl refl (ap not (sym e) ∙ q)
-    where
-      by : (x y : Bool) → ltb 0 d ≡ x → ltb k 4096 ≡ y → not (x && y) ≡ false → (d ≡ 0 → ⊥) × (k < 4096)
-      by true true p q h = ((λ z. omega (lin, z, ltb-true 0 d p)), ltb-true k 4096 q)
-      by true false p q h = let x : _≡_ {A = ℕ} 0 1 = cc in absurd (omega lin)
-      by false y p q h = let x : _≡_ {A = ℕ} 0 1 = cc in absurd (omega lin)
-
-  pub nothing-there : (ρ : Rows) (D : List Var) (Γ : Env) (N : List ℕ) → not b ≡ true → found (No 4) k ≡ foundAt ρ D Γ N d k
-  unfolding foundAt type
-  nothing-there ρ D Γ N q = by (ltb 0 d) (ltb k 4096) refl refl (ap not (sym e) ∙ q)
-    where
-      by : (x y : Bool) → ltb 0 d ≡ x → ltb k 4096 ≡ y → not (x && y) ≡ true → found (No 4) k ≡ found (type ρ D Γ (treeOf (treeAt N d k))) (afterOf (treeAt N d k))
-      by true true p q h = let x : _≡_ {A = ℕ} 0 1 = cc in absurd (omega lin)
-      by true false p q h = ends-past (type ρ D Γ) found N d k (λ z. omega (lin, z, ltb-true 0 d p)) (ltb-false k 4096 q)
-      by false y p q h = let x = ltb-false 0 d p in ends-deep (type ρ D Γ) found N d k (omega lin)
-
--- an operation past 6 that is one has two operands; one that has two and is not past it is `step`
-pub past-six : (op : ℕ) → 6 < op → (arity (formOf op) ≡ 0 → ⊥) → (arity (formOf op) ≡ 0 → ⊥) × (arity (formOf op) ≡ 1 → ⊥)
-past-six op h z = (z, one-rest op (((tt, λ q. omega (lin, q, h)), λ q. omega (lin, q, h)), λ q. omega (lin, q, h)))
-
-pub is-step : (op : ℕ) → (6 < op → ⊥) → (arity (formOf op) ≡ 0 → ⊥) → (arity (formOf op) ≡ 1 → ⊥) → formOf op ≡ stepF
-unfolding formOf
-is-step op h z i = by (ℕ-discrete op 6)
-  where
-    by : Dec (op ≡ 6) → formOf op ≡ stepF
-    by (yes e) = rw e
-    by (no n) = absurd (two-rest op ((((((tt, n), λ q. omega (lin, q, h)), λ q. omega (lin, q, h)), λ q. omega (lin, q, h)), λ q. omega (lin, q, h)), λ q. omega (lin, q, h)) (z, i))
 
 pub folds : (ρ : Rows) (D : List Var) (Γ : Env) → Folds (type ρ D Γ) (form ρ D Γ)
 unfolding form type

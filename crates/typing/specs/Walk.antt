@@ -1,5 +1,5 @@
 -- The judgement of the tree at a node, with the node after it; and a node's judgement from its operands'. Assumes nothing.
-use Rattle.rules.specs.Prelude.{ℕ, Bool, _&&_, List, _≡_, refl, ltb}
+use Rattle.rules.specs.Prelude.{ℕ, List, _≡_, refl}
 use Rattle.rules.specs.declared.Env.{Env}
 use Rattle.rules.specs.declared.Kind.the-variants.{Cint, Value}
 use Rattle.rules.specs.declared.Op.{Op}
@@ -7,16 +7,11 @@ use Rattle.rules.specs.declared.Tag.the-variants as G
 use Rattle.rules.specs.declared.Judged.{Judged}
 use Rattle.rules.specs.declared.Judged.the-variants.{No, Ok}
 use Rattle.rules.specs.Numbers.{numCode}
-use Rattle.rules.specs.Limits.{limits}
 use Rattle.rules.specs.Program.{Rows, Var}
 use Rattle.rules.specs.View.{Form, none, litF, varF, fetchF, intF, valF, stepF, calc, treeOf, treeAt}
 use Rattle.rules.specs.Typing.{intEntry, tyVar, tyArith, tyVal, tyInt, tyFetch, tyStep, type}
 use Rattle.program.specs.Nodes.{afterOf}
 use Rattle.typing.specs.declared.Found.{Found}
-
--- a node can stand at k, where the depth left is d
-abbrev pub within : ℕ → ℕ → Bool
-within d k = ltb 0 d && ltb k (limits .nodes)
 
 -- of an operand of arithmetic, what plays a part: whether it is an int, and its tag
 abbrev pub tagOnly : Judged → Judged

@@ -12,7 +12,7 @@ ghost use Rattle.rules.specs.Typing.{arithTag, arithKinds, suitsTag, valOf, imm
 ghost use Rattle.number.specs.Places.{indexIn};
 ghost use Rattle.program.specs.Nodes.{arity};
 ghost use Rattle.coded.specs.Coded.{envOf};
-ghost use Rattle.typing.specs.Walk.{tagOnly, within, form, found, foundAt};
+ghost use Rattle.typing.specs.Walk.{tagOnly, form, found, foundAt};
 ghost use Rattle.rules.specs.declared.Env.{Env};
 use number::Index;
 use rules::Addr;
@@ -425,17 +425,6 @@ fn two_ints(op: u32, x: Judged, y: Judged) -> Judged
     }
 }
 
-// Whether a node can stand there: within the depth, and within the table.
-fn is_within(depth: usize, at: usize) -> bool
-    ensures { λ b. ⌜ b ≡ within depth at ⌝ }
-{
-    if depth == 0 {
-        false
-    } else {
-        at < Limits::NODES
-    }
-}
-
 fn gives(j: Judged, n: usize) -> Found
     ensures { λ f. ⌜ f ≡ found j n ⌝ }
 {
@@ -492,7 +481,7 @@ fn walk(
 ) -> Found
     ensures { λ f. ⌜ f ≡ foundAt (rowsFrom (now (size .entry)) (now (rows .entry))) (varsFrom (now (size .entry)) (now (vars .entry))) (envOf (now (codes .entry)) count) (now (nodes .entry)) depth at ⌝ }
 {
-    if !is_within(depth, at) {
+    if !program::is_within(depth, at) {
         return gives(Judged::No(4), at);
     }
     let op = program::operation(nodes, at);

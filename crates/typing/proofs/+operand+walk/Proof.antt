@@ -8,9 +8,9 @@ use Rattle.rules.specs.declared.Judged.the-variants.{No}
 use Rattle.rules.specs.View.{formOf}
 use Rattle.rules.specs.Typing.{type}
 use Rattle.program.specs.Nodes.{arity}
-use Rattle.program.proofs.Walk.{ends-leaf, ends-one, ends-two, leaf-there, ends-there}
+use Rattle.program.proofs.Walk.{past-six, is-step, is-within, ends-beyond, ends-leaf, ends-one, ends-two, leaf-there, ends-there}
 use Rattle.typing.specs.Walk.{form, found, foundAt}
-use Rattle.typing.proofs.Laws.{is-within, nothing-there, past-six, is-step, folds, step-form, tree-of, after-of}
+use Rattle.typing.proofs.Laws.{folds, step-form, tree-of, after-of}
 use Prim.Native.Nat.{ℕ, _+_, _*_, _/_, _<_}
 use lib.ListN.{getD}
 use borrow.Fn.Kinds.{In}
@@ -27,7 +27,7 @@ use Rattle.program.proofs.operands.Reads as operands-reads
 use Rattle.program.proofs.is_leaf.Reads as is-leaf-reads
 use Rattle.typing.proofs.leaf_at.Reads as leaf-at-reads
 use Rattle.typing.proofs.one_operand.Reads as one-operand-reads
-use Rattle.typing.proofs.is_within.Reads as is-within-reads
+use Rattle.program.proofs.is_within.Reads as is-within-reads
 use Rattle.typing.proofs.tag_only.Reads as tag-only-reads
 use Rattle.typing.proofs.two_ints.Reads as two-ints-reads
 use Rattle.typing.proofs.ty_step.Reads as ty-step-reads
@@ -95,7 +95,7 @@ unfolding foundAt type
     walk.Post
     (λ c κs. search needs)  -- is-within-requires
     (λ c κs. search needs)  -- gives-requires
-    (λ c. c .gives .ensures ∙ nothing-there _ _ (c .before .before .is-within .ensures) _ _ _ _ (c .before .if1 .taken))  -- returns
+    (λ c. c .gives .ensures ∙ ends-beyond (type _ _ _) found _ _ _ (c .before .before .is-within .ensures) (c .before .if1 .taken))  -- returns
     (λ c κs. search needs)  -- operation-requires
     (λ c κs. search needs)  -- operands-requires
     (λ c κs. leaf-here t c)  -- leaf-at-requires

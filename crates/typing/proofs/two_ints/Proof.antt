@@ -1,8 +1,7 @@
 -- `typing::two_ints` meets its contract. Assumes nothing.
 use mathlib.Core.Path.{_∙_}
 use native.Mathlib.Omega.{arith}
-use Rattle.program.proofs.Walk.{two-rest}
-use Rattle.typing.proofs.Laws.{past-six}
+use Rattle.program.proofs.Walk.{two-rest, past-six}
 use Rattle.typing.specs.Walk.{form, arith-tags}
 use Rattle.rules.specs.View.{formOf}
 use borrow.Author.Needs.{needs}
