@@ -298,12 +298,12 @@ pub fn given_at(
     heads: &[u32; 768],
     cells: &[u64; 4352],
     vals: &[u64; 32],
-    at: usize,
+    k: usize,
 ) -> Gave
-    ensures { λ g. ⌜ ((R D : List ℕ) → g ≡ gaveAt (rowsFrom (now (size .entry)) R) (storeOf (now (store .entry)) (now (heads .entry)) (now (cells .entry))) (valsOf (length (varsFrom (now (size .entry)) D)) (now (vals .entry))) (now (nodes .entry)) 16 at) ⌝ }
+    ensures { λ g. ⌜ ((R D : List ℕ) → g ≡ gaveAt (rowsFrom (now (size .entry)) R) (storeOf (now (store .entry)) (now (heads .entry)) (now (cells .entry))) (valsOf (length (varsFrom (now (size .entry)) D)) (now (vals .entry))) (now (nodes .entry)) 16 k) ⌝ }
 {
-    if program::is_leaf(nodes, Limits::DEPTH, at) {
-        return gives(leaf_at(size, nodes, vals, at), at + 1);
+    if program::is_leaf(nodes, Limits::DEPTH, k) {
+        return gives(leaf_at(size, nodes, vals, k), k + 1);
     }
-    walk(size, nodes, vals, Limits::DEPTH, at, store, heads, cells)
+    walk(size, nodes, vals, Limits::DEPTH, k, store, heads, cells)
 }
