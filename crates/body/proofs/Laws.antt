@@ -16,7 +16,7 @@ use Rattle.rules.specs.When.{when}
 use Rattle.rules.specs.Answers.{answer, accepted, passes, first}
 use Rattle.rules.specs.Numbers.{num_code}
 use Rattle.rules.specs.Text.Layout.{Tables}
-use Rattle.rules.specs.Laws.Lists.{tab_length}
+use Rattle.rules.proofs.Laws.Lists.{tab_length}
 use Rattle.rules.specs.Program.{Stmt, bad_s}
 use Rattle.rules.specs.View.{tab, tree_of, tree_at, Way, no_w, set_w, put_w, goto_w, if_w, ifimm_w, iftag_w, ifint_w, return_w, label_w, way_of, stmt_of, stmt_from, kind_code, rows_from, vars_from, labels_from, body_from, program}
 use Rattle.rules.specs.Typing.{ty_var, type}

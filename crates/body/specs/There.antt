@@ -13,8 +13,8 @@ use Rattle.rules.specs.Names.{stmt_there, name_row, name_var, name_stmt, names}
 use Rattle.rules.specs.Environments.{covers_env, covers, label_env, start_env}
 use Rattle.rules.specs.Body.{rule_label, line_of, local_line, body_numbers, types, ends}
 use Rattle.rules.specs.Check.{check}
-use Rattle.rules.specs.Laws.Tests.{held, and_both}
-use Rattle.rules.specs.Laws.Stages.{Each, each_append, each_map, Zero, need_exactly, first_exactly, first_plain}
+use Rattle.rules.proofs.Laws.Tests.{held, and_both}
+use Rattle.rules.proofs.Laws.Stages.{Each, each_append, each_map, Zero, need_exactly, first_exactly, first_plain}
 use Rattle.program.specs.Labels.{env_from}
 use Rattle.program.proofs.Laws.{label_env_lem}
 use Rattle.body.specs.Lines.{label_line, line_in, numbers_in, types_in}

@@ -14,8 +14,8 @@ use Rattle.rules.specs.View.{program}
 use Rattle.rules.specs.Names.{names}
 use Rattle.rules.specs.Body.{ends}
 use Rattle.rules.specs.Check.{check, Checked, checked, verdict}
-use Rattle.rules.specs.Laws.Tests.{by_when}
-use Rattle.rules.specs.Laws.Accepts.{refused_tables, accepted_tables, verdict_plain}
+use Rattle.rules.proofs.Laws.Tests.{by_when}
+use Rattle.rules.proofs.Laws.Accepts.{refused_tables, accepted_tables, verdict_plain}
 use Rattle.program.specs.Lines.{tables_of}
 use Rattle.reader.specs.Read.{Holds, read_over, over_zeros}
 use Rattle.reader.proofs.Laws.{tables_are_lem}

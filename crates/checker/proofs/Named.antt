@@ -20,9 +20,9 @@ use Rattle.rules.specs.Names.{expr_there, stmt_there, names}
 use Rattle.rules.specs.Environments.{with_entry, label_env, start_env, covers_env}
 use Rattle.rules.specs.Body.{reached, refuse, goes, line_of, local_line}
 use Rattle.rules.specs.Published.{Constant, suited, unlimited, Judges, int_exp, var_exp, aop_exp, val_int_exp, int_val_exp, int_val_unboxed_exp, val_deref_exp, val_deref_boxed_exp, val_add_exp, val_add_boxed_exp, Allows, vset_stmt, lset_stmt, goto_stmt, if_stmt, if_unboxed_stmt, if_sum_tag_stmt, if_int_tag_stmt, ret_stmt, lbl_stmt}
-use Rattle.rules.specs.Laws.Tests.{by_need}
-use Rattle.rules.specs.Laws.Stages.{Each, each_append, Zero, first_exactly, first_plain}
-use Rattle.rules.specs.Exactly.Allows.{statement_accepted}
+use Rattle.rules.proofs.Laws.Tests.{by_need}
+use Rattle.rules.proofs.Laws.Stages.{Each, each_append, Zero, first_exactly, first_plain}
+use Rattle.rules.proofs.Exactly.Allows.{statement_accepted}
 use Rattle.names.specs.Trees.{stmt_named, Whole, names_in, names_whole, with_trees}
 use Rattle.program.specs.Labels.{env_from}
 use Rattle.body.specs.Lines.{label_line, line_in, numbers_in, types_in}

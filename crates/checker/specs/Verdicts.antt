@@ -3,7 +3,7 @@ use Rattle.rules.specs.Prelude.{ℕ, List, ◌≡◌, ap, ◌∙◌}
 use Rattle.rules.specs.declared.Verdict.{Verdict}
 use Rattle.rules.specs.Answers.{answer_of, case_of}
 use Rattle.rules.specs.Check.{checked, verdict}
-use Rattle.rules.specs.Laws.Told.{told_verdict}
+use Rattle.rules.proofs.Laws.Told.{told_verdict}
 use Rattle.checker.specs.Says.{Says}
 
 -- by the contract of `answer`

@@ -20,10 +20,10 @@ use Rattle.rules.specs.Machine.Tables.{MTables, machine}
 use Rattle.rules.specs.Store.Fill.{no_store_tables}
 use Rattle.rules.specs.Store.{read_store}
 use Rattle.rules.specs.Run.{running}
-use Rattle.rules.specs.Laws.Accepts.{read_as, refused_tables, verdict_plain}
-use Rattle.rules.specs.Laws.Told.{cases_apart}
-use Rattle.rules.specs.Exactly.Derivable.{text_exactly}
-use Rattle.rules.specs.Sound.StepTables.{Roomy}
+use Rattle.rules.proofs.Laws.Accepts.{read_as, refused_tables, verdict_plain}
+use Rattle.rules.proofs.Laws.Told.{cases_apart}
+use Rattle.rules.proofs.Exactly.Derivable.{text_exactly}
+use Rattle.rules.proofs.Sound.StepTables.{Roomy}
 use Rattle.program.specs.Lines.{tables_of}
 use Rattle.checker.specs.Says as C
 use Rattle.checker.specs.Verdicts.{said}

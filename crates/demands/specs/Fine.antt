@@ -5,7 +5,7 @@ use Rattle.rules.specs.Machine.{Machine}
 use Rattle.rules.specs.Store.{read_store}
 use Rattle.rules.specs.Run.{glue_of, store_text_of}
 use Rattle.rules.specs.Wrong.{NotWrong}
-use Rattle.rules.specs.Demands.{program_of, after}
+use Rattle.rules.proofs.Demands.{program_of, after}
 use Rattle.runner.specs.declared.Ran.{Ran}
 
 -- the budget that a joined text gives

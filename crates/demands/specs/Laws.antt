@@ -18,10 +18,10 @@ use Rattle.rules.specs.Store.Text.{Counted, counted_out, store_lines, most_store
 use Rattle.rules.specs.Store.Fill.{StoreTables, no_store_tables, fill_store}
 use Rattle.rules.specs.Store.{StoreOut, kept_store, judged, params_of, read_store}
 use Rattle.rules.specs.Run.{Result, start, refused, result_of, run_store, run_checked, glue_of, store_text_of, running}
-use Rattle.rules.specs.Demands.{program_of, demand3, counted}
-use Rattle.rules.specs.Laws.Accepts.{verdict_plain}
-use Rattle.rules.specs.Laws.Told.{told_store}
-use Rattle.rules.specs.Sound.StepTables.{Roomy, step_tables, run_tables}
+use Rattle.rules.proofs.Demands.{program_of, demand3, counted}
+use Rattle.rules.proofs.Laws.Accepts.{verdict_plain}
+use Rattle.rules.proofs.Laws.Told.{told_store}
+use Rattle.rules.proofs.Sound.StepTables.{Roomy, step_tables, run_tables}
 use Rattle.program.specs.Lines.{tables_of}
 use Rattle.moves.specs.Moves.{lines}
 use Rattle.machine.specs.declared.Machine.{Machine}

@@ -2,7 +2,7 @@
 use Rattle.rules.specs.Prelude.{ℕ, List, ◌≡◌, refl}
 use Rattle.rules.specs.declared.Verdict.{Verdict}
 use Rattle.rules.specs.Check.{Checked}
-use Rattle.rules.specs.Laws.Told.{cases_apart}
+use Rattle.rules.proofs.Laws.Told.{cases_apart}
 use Rattle.checker.specs.Says.{Says}
 use Rattle.runner.specs.declared.Ran.{Ran}
 use Rattle.runner.specs.Ran as R

@@ -18,8 +18,8 @@ use Rattle.rules.specs.Program.{entry}
 use Rattle.rules.specs.View.{boxed_code, offset_code, tag_code}
 use Rattle.rules.specs.When.{need}
 use Rattle.rules.specs.Machine.Tables.{datum_code, code_of}
-use Rattle.rules.specs.Laws.Tests.{by_when}
-use Rattle.rules.specs.Laws.Small.{SmallN, number_again}
+use Rattle.rules.proofs.Laws.Tests.{by_when}
+use Rattle.rules.proofs.Laws.Small.{SmallN, number_again}
 use Rattle.entry.specs.Codes.{boxed_to, offset_to, tag_to, codes_of, writable}
 
 abbrev pub SmallOffset : Offset → Type 0

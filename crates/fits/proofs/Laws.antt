@@ -17,7 +17,7 @@ use Rattle.rules.specs.Machine.Tables.{store_of, vals_of}
 use Rattle.rules.specs.Fits.{fits_place, fits, right_shape, cells_fit, block_number, arg_numbers}
 use Rattle.rules.specs.Store.Fill.{StoreTables}
 use Rattle.rules.specs.Store.{store_fits}
-use Rattle.rules.specs.Sound.StepTables.{vals_length}
+use Rattle.rules.proofs.Sound.StepTables.{vals_length}
 use Rattle.table.proofs.Passes.{left_more, left_none, all_on, all_no, first_append, then_on, then_no}
 
 -- ---- data

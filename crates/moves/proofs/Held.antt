@@ -14,8 +14,8 @@ use Rattle.rules.specs.declared.Act.TheVariants as D
 use Rattle.rules.specs.Numbers.{zero_n, eq_z, same_num}
 use Rattle.rules.specs.Program.{Rows, row_there, label_there, Expr, bad, lit, var, arith, val, int, fetch, step, Stmt, bad_s, set_s, put_s, goto_s, if_s, ifimm_s, iftag_s, ifint_s, return_s, label_s, Prog}
 use Rattle.rules.specs.View.{body_from, program}
-use Rattle.rules.specs.Laws.Lists.{tab_length, up_to_le}
-use Rattle.rules.specs.Laws.Tests.{by_need, and_both}
+use Rattle.rules.proofs.Laws.Lists.{tab_length, up_to_le}
+use Rattle.rules.proofs.Laws.Tests.{by_need, and_both}
 use Rattle.rules.specs.Machine.{Store, tag_in, inside, cells_in, cell_at, need_int, need_imm, need_place, ev_var, ev_arith, ev_val, ev_int, ev_fetch, moved, ev_step, eval, jump_if, jump_on, act_set, store_at, act_put, act_if, act_ifimm, act_iftag, act_ifint, act_return, act, decide}
 use Rattle.rules.specs.Machine.Tables.{store_of, vals_of}
 use Rattle.entry.specs.Codes.{writable}

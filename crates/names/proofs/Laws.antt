@@ -12,7 +12,7 @@ use Rattle.rules.specs.Environments.{no_var}
 use Rattle.rules.specs.Program.{Prog, Var, Expr, Stmt, bad_s, set_s, put_s, goto_s, if_s, ifimm_s, iftag_s, ifint_s, return_s, row_there, kind_at, label_at, no_entry}
 use Rattle.rules.specs.View.{tab, vars_from, labels_from, label_from, entry_from, Walked, walked, Form, none, lit_f, var_f, fetch_f, int_f, val_f, step_f, calc, form_of, tree_at, Way, no_w, set_w, put_w, goto_w, if_w, ifimm_w, iftag_w, ifint_w, return_w, label_w, way_of, tree_of, with_one, with_two, stmt_of, stmt_from, body_from}
 use Rattle.rules.specs.Names.{expr_there, fields_there, products_there, entry_suits, entries_suit, name_kind, name_row, name_var}
-use Rattle.rules.specs.Laws.Lists.{tab_length, tab_in}
+use Rattle.rules.proofs.Laws.Lists.{tab_length, tab_in}
 use Rattle.table.proofs.Passes.{left_more, left_none, then_on, then_no, first_append}
 use Rattle.program.specs.declared.Stored.{Stored}
 use Rattle.program.specs.Lines.{stored_at}

@@ -5,7 +5,7 @@ use Rattle.rules.specs.When.{need}
 use Rattle.rules.specs.Answers.{first}
 use Rattle.rules.specs.Program.{Prog, Expr, Stmt, bad_s, set_s, put_s, goto_s, if_s, ifimm_s, iftag_s, ifint_s, return_s, label_s, var_there, label_there}
 use Rattle.rules.specs.Names.{expr_there, stmt_there, label_suits, name_kind, name_row, name_var, name_stmt, names}
-use Rattle.rules.specs.Laws.Stages.{Each}
+use Rattle.rules.proofs.Laws.Stages.{Each}
 
 abbrev pub tree_named : Bool → Prog → Expr → Bool
 tree_named true P x = expr_there P x

@@ -10,7 +10,7 @@ use Rattle.rules.specs.declared.Next.{Next}
 use Rattle.rules.specs.declared.Next.TheVariants as N
 use Rattle.rules.specs.declared.Filling.TheVariants as F
 use Rattle.rules.specs.When.{when}
-use Rattle.rules.specs.Laws.Tests.{by_when}
+use Rattle.rules.proofs.Laws.Tests.{by_when}
 use Rattle.rules.specs.Text.Words.{byte_at, value_of, next_of, byte_is, plain_at, number_at, var_at}
 use Rattle.rules.specs.Text.Shape.{after, over, space, expr_shape, Key, no_key, ret_k, type_k, param_k, local_k, set_k, put_k, goto_k, if_k, ifimm_k, iftag_k, ifint_k, return_k, label_k, key_of, line_shape}
 use Rattle.rules.specs.Text.Layout.{Tables, with_nodes, with_body, one_line}

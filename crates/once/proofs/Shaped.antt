@@ -9,7 +9,7 @@ use Rattle.rules.specs.declared.Next.{Next}
 use Rattle.rules.specs.declared.Next.TheVariants as N
 use Rattle.rules.specs.declared.Filling.TheVariants as F
 use Rattle.rules.specs.When.{when}
-use Rattle.rules.specs.Laws.Tests.{by_when}
+use Rattle.rules.proofs.Laws.Tests.{by_when}
 use Rattle.rules.specs.Text.Words.{byte_at, byte_is, arity, head_at}
 use Rattle.rules.specs.Text.Shape.{space, exprs_shape, expr_shape}
 use Rattle.rules.specs.Text.Fill.{Out, out, onward, operands, node, expression}

@@ -10,7 +10,7 @@ use Rattle.rules.specs.declared.Given.{Given}
 use Rattle.rules.specs.declared.Given.TheVariants.{Stuck, Has}
 use Rattle.rules.specs.declared.State.{State}
 use Rattle.rules.specs.declared.State.TheVariants as Q
-use Rattle.rules.specs.Laws.Tests.{by_when}
+use Rattle.rules.proofs.Laws.Tests.{by_when}
 use Rattle.rules.specs.Run.{Result, digits_of, decimal, signed, value_text, state_text, answer_text, result_text}
 use Rattle.prints.specs.Written.{put_all, printed}
 

@@ -7,8 +7,8 @@ use Rattle.rules.specs.Prelude.{ℕ, ◌+◌, ◌≤◌, ◌<◌, Bool, true, fa
 use Rattle.rules.specs.declared.Entry.{Entry}
 use Rattle.rules.specs.Program.{no_entry}
 use Rattle.rules.specs.Environments.{covers_entry, covers_first}
-use Rattle.rules.specs.Laws.Tests.{held}
-use Rattle.rules.specs.Laws.Covering.{entry_refl}
+use Rattle.rules.proofs.Laws.Tests.{held}
+use Rattle.rules.proofs.Laws.Covering.{entry_refl}
 
 module _ (ls hs : List Entry) where
   pub first_more : (i : ℕ) (t : Bool) → covers_first i ls hs ≡ true → covers_entry (get_or ls i no_entry) (get_or hs i no_entry) ≡ t → covers_first (i + 1) ls hs ≡ t

@@ -11,7 +11,7 @@ use Rattle.rules.specs.Program.{Row, Var, Label, Rows, bad_s, no_entry, row_at, 
 use Rattle.rules.specs.Environments.{no_var, label_env}
 use Rattle.rules.specs.Text.Layout.{cell, row_width, var_width, label_width, Tables, zeros}
 use Rattle.rules.specs.View.{tab, up_to, psi_code, product_from, row_from, rows_from, kind_code, var_from, vars_from, entry_from, label_from, labels_from, body_from, stmt_from, stmt_of, way_of, program}
-use Rattle.rules.specs.Laws.Lists.{tab_length, tab_in, up_to_le}
+use Rattle.rules.proofs.Laws.Lists.{tab_length, tab_in, up_to_le}
 use Rattle.table.proofs.Laws.{below, tab_drop, tab_out}
 use Rattle.program.specs.Labels.{env_from}
 use Rattle.program.specs.Lines.{stored_at}

@@ -7,7 +7,7 @@ use Rattle.rules.specs.declared.Head.TheVariants.{Node, Not}
 use Rattle.rules.specs.declared.Filling.TheVariants as F
 use Rattle.rules.specs.Text.Words.{arity, head_at}
 use Rattle.rules.specs.Text.Fill.{Out, out, onward, operands, node, expression}
-use Rattle.rules.specs.Laws.Tests.{by_when}
+use Rattle.rules.proofs.Laws.Tests.{by_when}
 use Rattle.text.proofs.Laws.{head_read}
 
 abbrev pub Ends : ℕ → Out → Type 0

@@ -11,7 +11,7 @@ use Rattle.rules.specs.declared.Reading.TheVariants.{Got, Bad}
 use Rattle.rules.specs.declared.Next.{Next}
 use Rattle.rules.specs.declared.Next.TheVariants as N
 use Rattle.rules.specs.declared.Filling.TheVariants as F
-use Rattle.rules.specs.Laws.Tests.{by_when}
+use Rattle.rules.proofs.Laws.Tests.{by_when}
 use Rattle.rules.specs.Text.{TextOut, Lined, lined, limited, shaped, keyed, line_at}
 use Rattle.rules.specs.Text.Words.{byte_at, value_of, next_of, plain_at, number_at, var_at}
 use Rattle.rules.specs.Text.Shape.{Key, no_key, ret_k, type_k, param_k, local_k, set_k, put_k, goto_k, if_k, ifimm_k, iftag_k, ifint_k, return_k, label_k, kind_word, psi_at, key_of, key_at, line_shape, in_order}

@@ -9,7 +9,7 @@ use Rattle.rules.specs.declared.Next.{Next}
 use Rattle.rules.specs.declared.Next.TheVariants as N
 use Rattle.rules.specs.declared.Filling.{Filling}
 use Rattle.rules.specs.declared.Filling.TheVariants as F
-use Rattle.rules.specs.Laws.Tests.{by_when}
+use Rattle.rules.proofs.Laws.Tests.{by_when}
 use Rattle.rules.specs.Text.{TextOut, Lined, lined, limited, shaped, and_line}
 use Rattle.rules.specs.Text.Words.{byte_at}
 use Rattle.rules.specs.Text.Shape.{key_of, part_of, line_shape}

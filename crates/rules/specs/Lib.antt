@@ -1,4 +1,4 @@
--- The rules. Definitions first, a file for each heading of document 01, then the statements that a visitor reads first, then their proofs.
+-- The rules: definitions, a file for each heading of document 01, then those of the statements. The statements and their proofs stand in proofs/.
 pub mod Prelude
 pub mod When
 pub mod Bytes
@@ -17,10 +17,5 @@ pub mod Machine
 pub mod Fits
 pub mod Store
 pub mod Run
-pub mod Starred
 pub mod Published
 pub mod Wrong
-pub mod Demands
-pub mod Laws
-pub mod Exactly
-pub mod Sound

@@ -5,32 +5,32 @@ ghost use Rattle.rules.specs.Limits.{limits};
 ghost use Rattle.rules.specs.Program.{loosest};
 
 // A signed 32-bit number.
-#[derive(Drop)]
+#[derive(Clone, Copy)]
 pub struct Num {
     pub n: i32,
 }
 
 // `any`, `box`, `imm`.
-#[derive(Drop)]
+#[derive(Clone, Copy)]
 pub enum Boxed {
     Either,
     Block,
     Imm,
 }
 
-#[derive(Drop)]
+#[derive(Clone, Copy)]
 pub enum Offset {
     Unknown,
     Known(Num),
 }
 
-#[derive(Drop)]
+#[derive(Clone, Copy)]
 pub enum Tag {
     Unknown,
     Known(Num),
 }
 
-#[derive(Drop)]
+#[derive(Clone, Copy)]
 pub struct Entry {
     pub boxed: Boxed,
     pub offset: Offset,
@@ -53,14 +53,14 @@ impl Entry {
 }
 
 // One entry for each variable.
-#[derive(Drop)]
+#[derive(Clone, Copy)]
 pub struct Env {
     pub entries: [Entry; 32],
     pub count: usize,
 }
 
 // The limits of a glue text and of a store text.
-#[derive(Drop)]
+#[derive(Clone, Copy)]
 pub struct Limits {
     pub bytes: usize,
     pub rows: usize,
@@ -137,20 +137,20 @@ impl Limits {
     }
 }
 
-#[derive(Drop)]
+#[derive(Clone, Copy)]
 pub enum Kind {
     Cint,
     Value(usize),
 }
 
 // How many constants a row has.
-#[derive(Drop)]
+#[derive(Clone, Copy)]
 pub enum Psi {
     Inf,
     Upto(u32),
 }
 
-#[derive(Drop)]
+#[derive(Clone, Copy)]
 pub enum Op {
     Add,
     Sub,
@@ -159,7 +159,7 @@ pub enum Op {
     Lt,
 }
 
-#[derive(Drop)]
+#[derive(Clone, Copy)]
 pub enum Datum {
     Int(Num),
     Imm(Num),
@@ -167,14 +167,14 @@ pub enum Datum {
 }
 
 // The answer to a text: its number, and the line that it names.
-#[derive(Drop)]
+#[derive(Clone, Copy)]
 pub struct Answer {
     pub number: u32,
     pub line: usize,
 }
 
 // The answer to a text, case by case, with the line that it names. specs/Answers gives the number of each.
-#[derive(Drop)]
+#[derive(Clone, Copy)]
 pub enum Verdict {
     Accepted,
     TooLong,
@@ -200,28 +200,28 @@ pub enum Verdict {
 }
 
 // What an expression is judged as: an answer's number, or a kind with an entry.
-#[derive(Drop)]
+#[derive(Clone, Copy)]
 pub enum Judged {
     No(u32),
     Ok(Kind, Entry),
 }
 
 // A block address: a tag and an offset, or an answer's number.
-#[derive(Drop)]
+#[derive(Clone, Copy)]
 pub enum Addr {
     Bad(u32),
     At(usize, usize),
 }
 
 // What an expression gives in the machine.
-#[derive(Drop)]
+#[derive(Clone, Copy)]
 pub enum Given {
     Stuck,
     Has(Datum),
 }
 
 // What a line does to the environment: answer 0 goes on.
-#[derive(Drop)]
+#[derive(Clone, Copy)]
 pub struct Line {
     pub answer: u32,
     pub live: bool,
@@ -231,35 +231,35 @@ pub struct Line {
 // ---- readers: each is a function of the text and a place in it
 
 // What was read as it stands in a table (a number as its 32 bits, a key or an operator as its number, a datum as its code) and the next byte; or the first wrong byte.
-#[derive(Drop)]
+#[derive(Clone, Copy)]
 pub enum Reading {
     Got(u64, usize),
     Bad(usize),
 }
 
 // The byte after what was read, or the first wrong byte.
-#[derive(Drop)]
+#[derive(Clone, Copy)]
 pub enum Next {
     At(usize),
     Bad(usize),
 }
 
 // The first word of an expression: operation, argument, next byte; or the first wrong byte.
-#[derive(Drop)]
+#[derive(Clone, Copy)]
 pub enum Head {
     Node(u32, u32, usize),
     Not(usize),
 }
 
 // After an expression was written: the next byte and the next free node; or a limit is passed.
-#[derive(Drop)]
+#[derive(Clone, Copy)]
 pub enum Filling {
     Got(usize, usize),
     Limit,
 }
 
 // How much of a glue text was read. Part: 0 nothing, 1 rows may come, 2 variables, 3 the body.
-#[derive(Drop)]
+#[derive(Clone, Copy)]
 pub struct Count {
     pub part: u32,
     pub ret: u32,
@@ -274,7 +274,7 @@ pub struct Count {
 // ---- the machine
 
 // What a line does: nothing (stuck), the next line, a line by its place, a variable or a cell gets a datum, the machine returns.
-#[derive(Drop)]
+#[derive(Clone, Copy)]
 pub enum Act {
     Stuck,
     Fall,
@@ -285,7 +285,7 @@ pub enum Act {
 }
 
 // What a step says of itself; `Spent` where the budget is used up.
-#[derive(Drop)]
+#[derive(Clone, Copy)]
 pub enum Stepped {
     Stuck,
     Moved,
@@ -294,7 +294,7 @@ pub enum Stepped {
 }
 
 // `none`, `running`, `done`
-#[derive(Drop)]
+#[derive(Clone, Copy)]
 pub enum State {
     Refused,
     Running,
@@ -302,7 +302,7 @@ pub enum State {
 }
 
 // How much of a store text was read. Part: 0 nothing, 1 blocks may come, 2 arguments.
-#[derive(Drop)]
+#[derive(Clone, Copy)]
 pub struct StoreCount {
     pub part: u32,
     pub budget: u32,

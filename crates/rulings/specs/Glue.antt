@@ -1,7 +1,7 @@
 -- Glue texts and their answers, by the rulings that they show. Assumes nothing.
 use Rattle.rules.specs.Prelude.{ℕ, List, [], ◌∷◌, ◌++◌, ◌≡◌, refl}
 use Rattle.rules.specs.Bytes.{bytes}
-use Rattle.rules.specs.Starred.{standard}
+use Rattle.rules.proofs.Starred.{standard}
 use Rattle.rules.specs.Run.{runs}
 use Prim.Native.String.{String}
 use Rattle.rulings.specs.Cases.{Case, glue, times, differing}

@@ -19,7 +19,7 @@ use Rattle.rules.specs.Check.{checked, verdict}
 use Rattle.rules.specs.Machine.Tables.{datum_code, run_t, run_within}
 use Rattle.rules.specs.Store.{read_store}
 use Rattle.rules.specs.Run.{Result, refused, result_of, run_store, run_checked, glue_bytes}
-use Rattle.rules.specs.Laws.Told.{told_verdict, told_store}
+use Rattle.rules.proofs.Laws.Told.{told_verdict, told_store}
 use Rattle.program.specs.Lines.{tables_of}
 use Rattle.checker.specs.Says as C
 use Rattle.store.specs.Says as S

@@ -13,7 +13,7 @@ use Rattle.rules.specs.declared.Next.TheVariants as N
 use Rattle.rules.specs.declared.Head.{Head}
 use Rattle.rules.specs.declared.Head.TheVariants.{Node, Not}
 use Rattle.rules.specs.Bytes.{bytes}
-use Rattle.rules.specs.Laws.Tests.{by_when}
+use Rattle.rules.proofs.Laws.Tests.{by_when}
 use Rattle.rules.specs.Text.Words.{byte_at, plain_at, byte_is, arity, head_at}
 use Rattle.rules.specs.Text.Shape.{after, over, end, space, needed, expr_on, exprs_shape, fields_on, fields_shape, entry_shape, more_entries, label_shape, no_key, key_at, key_of}
 use Rattle.text.proofs.Chain.{only, chain, chain_by, chain_none}

@@ -9,7 +9,7 @@ use lib.Seq.{set_out}
 use Rattle.rules.specs.declared.Given.TheVariants.{Stuck}
 use Rattle.rules.specs.Limits.{limits}
 use Rattle.rules.specs.Text.Layout.{cell}
-use Rattle.rules.specs.Laws.Lists.{tab_length, tab_in, up_to_le}
+use Rattle.rules.proofs.Laws.Lists.{tab_length, tab_in, up_to_le}
 use Rattle.rules.specs.View.{tab, up_to}
 use Rattle.rules.specs.Machine.{Block, Store, no_block, block_at, row_in, tag_in, cells_in, cell_at, ev_var}
 use Rattle.rules.specs.Machine.Tables.{datum_code, head_width, block_width, block_from, store_of, vals_of}

@@ -10,7 +10,7 @@ use Rattle.rules.specs.declared.Kind.{Kind}
 use Rattle.rules.specs.declared.Num.{Num}
 use Rattle.rules.specs.declared.Reading.{Reading}
 use Rattle.rules.specs.declared.StoreCount.{StoreCount}
-use Rattle.rules.specs.Laws.Tests.{by_when}
+use Rattle.rules.proofs.Laws.Tests.{by_when}
 use Rattle.rules.specs.Answers.{answer, accepted, first}
 use Rattle.rules.specs.Text.Words.{value_of, next_of, plain_at, number_at}
 use Rattle.rules.specs.Environments.{no_var}

@@ -8,7 +8,7 @@ use Prim.Native.Nat.{ℕ, suc, ◌+◌, ◌<◌, ◌≤◌, min}
 use lib.ListN.{get_or, drop, get_or-eq_default}
 use lib.Seq.{drop-cons}
 use Rattle.rules.specs.View.{tab}
-use Rattle.rules.specs.Laws.Lists.{tab_length, tab_in}
+use Rattle.rules.proofs.Laws.Lists.{tab_length, tab_in}
 
 -- what a test of a count says of what it counts
 pub below : {i n m : ℕ} → n ≡ m → i < n → i < m

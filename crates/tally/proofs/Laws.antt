@@ -8,7 +8,7 @@ use Rattle.rules.specs.declared.Reading.{Reading}
 use Rattle.rules.specs.declared.Reading.TheVariants.{Got, Bad}
 use Rattle.rules.specs.declared.StoreCount.{StoreCount}
 use Rattle.rules.specs.Bytes.{bytes}
-use Rattle.rules.specs.Laws.Tests.{held, and_both, by_when}
+use Rattle.rules.proofs.Laws.Tests.{held, and_both, by_when}
 use Rattle.rules.specs.Text.Words.{byte_at, value_of, plain_at, number_at}
 use Rattle.rules.specs.Store.Text.{datum_of, place_of, cell_word, cells_on, cells_from, spaced, block_words, store_key, store_order, store_words, counted, within, StoreLine, store_line, store_limits, store_shaped, store_keyed, store_line_at, Counted, counted_out, store_end, and_store, store_lines, no_store}
 use Rattle.text.proofs.Laws.{found, Reads, right, wrong, value_most, plain_reads, number_reads, or_reads}

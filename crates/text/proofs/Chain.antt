@@ -7,7 +7,7 @@ use Rattle.rules.specs.declared.Reading.{Reading}
 use Rattle.rules.specs.declared.Reading.TheVariants.{Got, Bad}
 use Rattle.rules.specs.When.{when}
 use Rattle.rules.specs.Bytes.{bytes}
-use Rattle.rules.specs.Laws.Tests.{by_when}
+use Rattle.rules.proofs.Laws.Tests.{by_when}
 use Rattle.rules.specs.Text.Words.{byte_at, agreed, or_word, operator_at}
 use Rattle.text.proofs.Laws.{get_d_any}
 use Rattle.text.proofs.Ways.{text_ends, differs, or_miss}

@@ -12,7 +12,7 @@ use Rattle.rules.specs.declared.Reading.TheVariants.{Got, Bad}
 use Rattle.rules.specs.declared.Head.{Head}
 use Rattle.rules.specs.declared.Head.TheVariants.{Node, Not}
 use Rattle.rules.specs.Bytes.{bytes}
-use Rattle.rules.specs.Laws.Tests.{by_when}
+use Rattle.rules.proofs.Laws.Tests.{by_when}
 use Rattle.rules.specs.Text.Words.{byte_at, value_of, next_of, more_digits, magnitude_at, plain_at, minus, number_at, agreed, or_word, var_at, operator_at, head_of, operator_head, head_at}
 
 -- ---- bytes

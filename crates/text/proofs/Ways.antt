@@ -11,7 +11,7 @@ use Rattle.rules.specs.declared.Reading.TheVariants.{Got, Bad}
 use Rattle.rules.specs.declared.Next.TheVariants as N
 use Rattle.rules.specs.declared.Head.TheVariants.{Node, Not}
 use Rattle.rules.specs.When.{when}
-use Rattle.rules.specs.Laws.Tests.{by_when}
+use Rattle.rules.proofs.Laws.Tests.{by_when}
 use Rattle.text.proofs.Laws.{inside, get_d_any}
 use Rattle.rules.specs.Text.Words.{byte_at, more_digits, magnitude_at, plain_at, minus, number_at, agreed, or_word, byte_is, var_at, operator_at, head_of, operator_head, head_at}
 

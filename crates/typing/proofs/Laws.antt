@@ -19,7 +19,7 @@ use Rattle.rules.specs.Numbers.{among, nat_of}
 use Rattle.rules.specs.Program.{Rows, Var, psi_of, prods_of, fields_of}
 use Rattle.rules.specs.View.{rows_from, form_of, none, lit_f, var_f, fetch_f, int_f, val_f, step_f, calc, tree_of, tree_at}
 use Rattle.rules.specs.Typing.{Spot, nowhere, spot, spot_of, lone, addr_at, addr_spot, address_of, ty_arith, ty_val, ty_int, ty_fetch, ty_step, type}
-use Rattle.rules.specs.Laws.Tests.{held, by_need}
+use Rattle.rules.proofs.Laws.Tests.{held, by_need}
 use Rattle.program.specs.Nodes.{after_of}
 use Rattle.program.proofs.Laws.{prods_small, fields_small}
 use Rattle.program.proofs.Walk.{Folds}

@@ -1,5 +1,5 @@
 -- `act::act_set` meets its contract. Assumes nothing.
-use Rattle.rules.specs.Sound.StepTables.{vals_length}
+use Rattle.rules.proofs.Sound.StepTables.{vals_length}
 use Rattle.rules.specs.Machine.{act_set}
 use mathlib.Core.Path.{◌∙◌, refl, sym}
 use borrow.Author.Rules.{rules}

@@ -9,7 +9,7 @@ use native.Mathlib.Omega.{arith}
 use borrow.Author.Rules.{rules}
 use Rattle.rules.specs.Text.Layout.{cell, label_width}
 use Rattle.rules.specs.View.{tab}
-use Rattle.rules.specs.Laws.Lists.{tab_ext}
+use Rattle.rules.proofs.Laws.Lists.{tab_ext}
 use Rattle.table.proofs.Laws.{clamped}
 use Rattle.program.specs.Labels.{Whole, codes_from}
 use Rattle.program.proofs.label_codes.Statement.{statement}

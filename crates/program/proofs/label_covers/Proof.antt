@@ -4,7 +4,7 @@ use Rattle.program.proofs.Covers.{first_all, first_more, first_no, first_past}
 use Rattle.program.specs.Labels.{env_from}
 use Rattle.rules.specs.declared.Entry.{Entry}
 use Rattle.rules.specs.Environments.{covers_entry, covers_env, covers_first}
-use Rattle.rules.specs.Laws.Lists.{tab_in, tab_length}
+use Rattle.rules.proofs.Laws.Lists.{tab_in, tab_length}
 use Rattle.rules.specs.Program.{no_entry}
 use Rattle.rules.specs.View.{entry_from, label_from, tab}
 use lib.ListN.{get_or, length, length-map}

@@ -1,5 +1,5 @@
 -- `program::psi_of` meets its contract. Assumes nothing.
-use Rattle.rules.specs.Sound.Expr.{psi_absent}
+use Rattle.rules.proofs.Sound.Expr.{psi_absent}
 use Rattle.program.proofs.Laws.{psi_in}
 use Rattle.rules.specs.View.{psi_code, rows_from}
 use Rattle.table.proofs.Laws.{above, below}

@@ -7,7 +7,7 @@ use mathlib.Core.Path.{◌∙◌, ◌≡◌, refl, sym}
 use native.Mathlib.Omega.{arith}
 use borrow.Author.Rules.{rules}
 use Rattle.rules.specs.View.{tab}
-use Rattle.rules.specs.Laws.Lists.{tab_ext}
+use Rattle.rules.proofs.Laws.Lists.{tab_ext}
 use Rattle.program.specs.Labels.{Whole}
 use Rattle.program.proofs.Places.{entered, numbers_all, entered_end, entered_step}
 use Rattle.program.proofs.side_by_side.Statement.{statement}

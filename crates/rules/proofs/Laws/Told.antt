@@ -9,9 +9,9 @@ use Rattle.rules.specs.Answers.{answer_of, case_of}
 use Rattle.rules.specs.Program.{Prog}
 use Rattle.rules.specs.Check.{verdict}
 use Rattle.rules.specs.Store.{read_store}
-use Rattle.rules.specs.Laws.Told.Numbers.{InStore, NoLine, no_line}
-use Rattle.rules.specs.Laws.Told.Glue.{glue_told}
-use Rattle.rules.specs.Laws.Told.Store.{store_told}
+use Rattle.rules.proofs.Laws.Told.Numbers.{InStore, NoLine, no_line}
+use Rattle.rules.proofs.Laws.Told.Glue.{glue_told}
+use Rattle.rules.proofs.Laws.Told.Store.{store_told}
 
 -- ---- a case has one number and line, and no two cases have the same
 

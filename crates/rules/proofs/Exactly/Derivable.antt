@@ -12,10 +12,10 @@ use Rattle.rules.specs.Environments.{start_env}
 use Rattle.rules.specs.Body.{rule_label, line_of, local_ok, local_line, body_numbers, types, last_of, is_end, ends}
 use Rattle.rules.specs.Check.{check, verdict}
 use Rattle.rules.specs.Published.{Follows, end_of_body, seq_stmt, lbl_stmt_unreached, Declares, end_of_declarations, parameter, int_local, value_local, Ends, by_goto, by_return, later, Derivable}
-use Rattle.rules.specs.Laws.Tests.{held, by_need}
-use Rattle.rules.specs.Laws.Stages.{Each, each_append, Zero, need_exactly, first_exactly}
-use Rattle.rules.specs.Laws.Accepts.{check_exactly, verdict_exactly, read_as}
-use Rattle.rules.specs.Exactly.Allows.{statement_exactly, statement_accepted}
+use Rattle.rules.proofs.Laws.Tests.{held, by_need}
+use Rattle.rules.proofs.Laws.Stages.{Each, each_append, Zero, need_exactly, first_exactly}
+use Rattle.rules.proofs.Laws.Accepts.{check_exactly, verdict_exactly, read_as}
+use Rattle.rules.proofs.Exactly.Allows.{statement_exactly, statement_accepted}
 
 -- ---- bodies
 
@@ -71,11 +71,20 @@ module _ (ρ : Rows) where
 is_end_lem : (s : Stmt) → T (is_end s) → Ends (s ∷ [])
 is_end_lem (goto_s l) h = by_goto
 is_end_lem (return_s x) h = by_return
+is_end_lem bad_s h = elim h [ ]
+is_end_lem (set_s _ _) h = elim h [ ]
+is_end_lem (put_s _ _ _) h = elim h [ ]
+is_end_lem (if_s _ _) h = elim h [ ]
+is_end_lem (ifimm_s _ _) h = elim h [ ]
+is_end_lem (iftag_s _ _ _) h = elim h [ ]
+is_end_lem (ifint_s _ _ _) h = elim h [ ]
+is_end_lem (label_s _) h = elim h [ ]
 
 has_end : (body : List Stmt) → T (is_end (last_of body)) → Ends body
 unfolding last_of
 has_end (s ∷ []) h = is_end_lem s h
 has_end (s ∷ next ∷ rest) h = later (has_end (next ∷ rest) h)
+has_end [] h = elim h [ ]
 
 last_later : (s : Stmt) {rest : List Stmt} → Ends rest → last_of (s ∷ rest) ≡ last_of rest
 unfolding last_of

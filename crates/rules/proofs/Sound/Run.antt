@@ -14,11 +14,11 @@ use Rattle.rules.specs.Body.{refuse, goes, is_end, last_of, last_line, body_numb
 use Rattle.rules.specs.Check.{check}
 use Rattle.rules.specs.Machine.{Store, act, set_cell, decide, Machine, apply, step_from, step_of, run_of}
 use Rattle.rules.specs.Fits.{unreached, entered, Entered, here_env, env_from, env_at}
-use Rattle.rules.specs.Laws.Tests.{by_need, and_both}
-use Rattle.rules.specs.Laws.Stages.{Each, Zero, each_append, each_map, first_exactly, need_exactly}
-use Rattle.rules.specs.Laws.Accepts.{check_exactly}
-use Rattle.rules.specs.Sound.Facts.{Fits}
-use Rattle.rules.specs.Sound.Line.{jump_is, Promises, Good, Sized, Reaches, After, covers_good, line_sound}
+use Rattle.rules.proofs.Laws.Tests.{by_need, and_both}
+use Rattle.rules.proofs.Laws.Stages.{Each, Zero, each_append, each_map, first_exactly, need_exactly}
+use Rattle.rules.proofs.Laws.Accepts.{check_exactly}
+use Rattle.rules.proofs.Sound.Facts.{Fits}
+use Rattle.rules.proofs.Sound.Line.{jump_is, Promises, Good, Sized, Reaches, After, covers_good, line_sound}
 
 abbrev pub GoodAt : Prog → Entered → List Given → Store → Type 0
 GoodAt P unreached δ s = ⊥
@@ -48,6 +48,22 @@ end_stops P true Γ (goto_s l) h = goto_stops P.labels l Γ
 end_stops P true Γ (return_s x) h = return_stops P.ret (type P.rows P.vars Γ x) Γ
 end_stops P false Γ (goto_s l) h = tt
 end_stops P false Γ (return_s x) h = tt
+end_stops P false Γ bad_s h = elim h [ ]
+end_stops P false Γ (set_s _ _) h = elim h [ ]
+end_stops P false Γ (put_s _ _ _) h = elim h [ ]
+end_stops P false Γ (if_s _ _) h = elim h [ ]
+end_stops P false Γ (ifimm_s _ _) h = elim h [ ]
+end_stops P false Γ (iftag_s _ _ _) h = elim h [ ]
+end_stops P false Γ (ifint_s _ _ _) h = elim h [ ]
+end_stops P false Γ (label_s _) h = elim h [ ]
+end_stops P true Γ bad_s h = elim h [ ]
+end_stops P true Γ (set_s _ _) h = elim h [ ]
+end_stops P true Γ (put_s _ _ _) h = elim h [ ]
+end_stops P true Γ (if_s _ _) h = elim h [ ]
+end_stops P true Γ (ifimm_s _ _) h = elim h [ ]
+end_stops P true Γ (iftag_s _ _ _) h = elim h [ ]
+end_stops P true Γ (ifint_s _ _ _) h = elim h [ ]
+end_stops P true Γ (label_s _) h = elim h [ ]
 
 acc : (P : Prog) (body : List Stmt) (b : Bool) (Γ : Env) → Each Zero (body_numbers P body b Γ) → T (is_end (last_of body)) → Acc P body b Γ
 unfolding body_numbers last_of
@@ -101,6 +117,17 @@ module _ (P : Prog) (Z : Sized P) where
       go : (c : Bool) → covers P.labels l Γ ≡ c → (need (refuse 11 Γ) c (goes true (label_env P l))).answer ≡ 0 → Good P (label_env P l) δ s
       go true q e = covers_good P Z l (there_lt P l (named P (label_s l) n.0)) Γ δ s (rw q tt) g
       go false q e = absurd (omega (lin, e))
+  first_good [] false Γ δ s t a n g = elim t [ ]
+  first_good (bad_s ∷ body) false Γ δ s t a n g = elim t [ ]
+  first_good (set_s v x ∷ body) false Γ δ s t a n g = elim t [ ]
+  first_good (put_s x m y ∷ body) false Γ δ s t a n g = elim t [ ]
+  first_good (goto_s l ∷ body) false Γ δ s t a n g = elim t [ ]
+  first_good (if_s l x ∷ body) false Γ δ s t a n g = elim t [ ]
+  first_good (ifimm_s l v ∷ body) false Γ δ s t a n g = elim t [ ]
+  first_good (iftag_s l v m ∷ body) false Γ δ s t a n g = elim t [ ]
+  first_good (ifint_s l v m ∷ body) false Γ δ s t a n g = elim t [ ]
+  first_good (return_s x ∷ body) false Γ δ s t a n g = elim t [ ]
+  first_good (label_s l ∷ body) false Γ δ s t a n g = elim t [ ]
 
   after_then : (body : List Stmt) (x : Line) (δ : List Given) (s : Store) → Acc P body x.live x.env → Named P body → (a : Act) → After P x δ s a → Then P (env_from P body x.live x.env zero) δ s a
   after_then body x δ s a n D.Fall h = first_good body x.live x.env δ s h.0 a n h.1
@@ -108,6 +135,7 @@ module _ (P : Prog) (Z : Sized P) where
   after_then body x δ s a n (D.SetVar v d) h = first_good body x.live x.env (set δ v (Has d)) s h.0 a n h.1
   after_then body x δ s a n (D.SetCell b o d) h = first_good body x.live x.env δ (set_cell s b o d) h.0 a n h.1
   after_then body x δ s a n (D.Give d) h = h
+  after_then body x δ s a n D.Stuck h = elim h [ ]
 
   label_after : (l : ℕ) (b : Bool) (Γ : Env) (δ : List Given) (s : Store) → (line_of P b Γ (label_s l)).answer ≡ 0 → Good P (label_env P l) δ s → After P (line_of P b Γ (label_s l)) δ s D.Fall
   unfolding line_of rule_label
@@ -133,6 +161,15 @@ module _ (P : Prog) (Z : Sized P) where
   line_after_lem (ifint_s l v m) true Γ δ s e t g = reached_after (ifint_s l v m) Γ δ s e t g
   line_after_lem (return_s x) true Γ δ s e t g = reached_after (return_s x) Γ δ s e t g
   line_after_lem (label_s l) b Γ δ s e t g = rw (jump_is P l t false) (label_after l b Γ δ s e g)
+  line_after_lem bad_s false Γ δ s e t g = elim t [ ]
+  line_after_lem (set_s v x) false Γ δ s e t g = elim g [ ]
+  line_after_lem (put_s x m y) false Γ δ s e t g = elim g [ ]
+  line_after_lem (goto_s l) false Γ δ s e t g = elim g [ ]
+  line_after_lem (if_s l x) false Γ δ s e t g = elim g [ ]
+  line_after_lem (ifimm_s l v) false Γ δ s e t g = elim g [ ]
+  line_after_lem (iftag_s l v m) false Γ δ s e t g = elim g [ ]
+  line_after_lem (ifint_s l v m) false Γ δ s e t g = elim g [ ]
+  line_after_lem (return_s x) false Γ δ s e t g = elim g [ ]
 
   lines_then : (body : List Stmt) (b : Bool) (Γ : Env) (i : ℕ) (δ : List Given) (s : Store) → Acc P body b Γ → Named P body → GoodAt P (env_from P body b Γ i) δ s → Then P (env_from P body b Γ (suc i)) δ s (act P s δ (get_or body i bad_s))
   unfolding env_from
@@ -143,11 +180,21 @@ module _ (P : Prog) (Z : Sized P) where
   -- what fits a label fits the environment of its line
   here_label : (st : Stmt) (b : Bool) (Γ : Env) (l : ℕ) (δ : List Given) (s : Store) → T (is_label l st) → Good P (label_env P l) δ s → GoodAt P (here_env P b Γ st) δ s
   here_label (label_s k) b Γ l δ s t g = subst (λ (z : ℕ). Good P (label_env P z) δ s) (sym (eqb→eq k l t)) g
+  here_label bad_s b Γ l δ s t g = elim t [ ]
+  here_label (set_s _ _) b Γ l δ s t g = elim t [ ]
+  here_label (put_s _ _ _) b Γ l δ s t g = elim t [ ]
+  here_label (goto_s _) b Γ l δ s t g = elim t [ ]
+  here_label (if_s _ _) b Γ l δ s t g = elim t [ ]
+  here_label (ifimm_s _ _) b Γ l δ s t g = elim t [ ]
+  here_label (iftag_s _ _ _) b Γ l δ s t g = elim t [ ]
+  here_label (ifint_s _ _ _) b Γ l δ s t g = elim t [ ]
+  here_label (return_s _) b Γ l δ s t g = elim t [ ]
 
   at_label : (body : List Stmt) (b : Bool) (Γ : Env) (i l : ℕ) (δ : List Given) (s : Store) → T (is_label l (get_or body i bad_s)) → Good P (label_env P l) δ s → GoodAt P (env_from P body b Γ i) δ s
   unfolding env_from
   at_label (st ∷ body) b Γ zero l δ s t g = here_label st b Γ l δ s t g
   at_label (st ∷ body) b Γ (suc i) l δ s t g = at_label body (line_of P b Γ st).live (line_of P b Γ st).env i l δ s t g
+  at_label [] b Γ i l δ s t g = elim t [ ]
 
 -- ---- the theorem
 
@@ -188,6 +235,7 @@ then_moves P E δ s (D.Jump i) h = tt
 then_moves P E δ s (D.SetVar v d) h = tt
 then_moves P E δ s (D.SetCell b o d) h = tt
 then_moves P E δ s (D.Give d) h = tt
+then_moves P E δ s D.Stuck h = elim h [ ]
 
 module _ (P : Prog) (Z : Sized P) (ok : check P ≡ accepted) where
   there : Named P P.body
@@ -236,6 +284,7 @@ module _ (P : Prog) (Z : Sized P) (ok : check P ≡ accepted) where
   fine_step m e g (D.SetVar v d) h = record { fits = h; value = rw e tt }
   fine_step m e g (D.SetCell b o d) h = record { fits = h; value = rw e tt }
   fine_step m e g (D.Give d) h = record { fits = g; value = h }
+  fine_step m e g D.Stuck h = elim h [ ]
 
   step_fine : (m : Machine) → Fine P m → Fine P (step_of P m)
   unfolding step_of

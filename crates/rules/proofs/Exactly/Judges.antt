@@ -13,12 +13,13 @@ use Rattle.rules.specs.Numbers.{zero_n, num, among, suits, nat_of}
 use Rattle.rules.specs.Program.{Rows, Var, Expr, bad, lit, var, arith, val, int, fetch, step, entry, zero_i, loosest, is_zero, psi_of, prods_of, fields_of, field_of}
 use Rattle.rules.specs.Typing.{lone, ty_var, arith_tag, ty_arith, suits_tag, ty_val, int_of, ty_int, nowhere, spot, addr_spot, address_of, fetched, ty_fetch, stepped, ty_step, type}
 use Rattle.rules.specs.Published.{WorkedOut, both_known, left_any, right_any, Constant, suited, unlimited, Judges, int_exp, var_exp, aop_exp, val_int_exp, int_val_exp, int_val_unboxed_exp, val_deref_exp, val_deref_boxed_exp, val_add_exp, val_add_boxed_exp}
-use Rattle.rules.specs.Laws.Tests.{same→eq, held, and_both, by_need}
+use Rattle.rules.proofs.Laws.Tests.{same→eq, held, and_both, by_need}
 
 -- ---- facts of tests
 
 pub offset_is_zero : (i : Offset) → T (is_zero i) → i ≡ zero_i
 offset_is_zero (I.Known n) h = ap I.Known (same→eq n zero_n h)
+offset_is_zero I.Unknown h = elim h [ ]
 
 -- an entry of which boxedness and offset are known
 pub known_parts : (e : Entry) {b : Boxed} {i : Offset} → e.boxed ≡ b → e.offset ≡ i → e ≡ entry b i e.tag
@@ -28,6 +29,7 @@ pub lone_row : (ψ : Psi) (prods : ℕ) → T (lone ψ prods) → (ψ ≡ Upto 0
 lone_row (Upto n) prods h =
     let (a, b) = and_both (eqb n 0) (eqb prods 1) h in
     (ap Upto (eqb→eq n 0 a), eqb→eq prods 1 b)
+lone_row Inf prods h = elim h [ ]
 
 worked : {o : Op} {s t u : Tag} → WorkedOut o s t u → arith_tag o s t ≡ u
 worked both_known = refl
@@ -47,6 +49,7 @@ constant unlimited = refl
 is_constant : (ψ : Psi) (t : Tag) → T (suits_tag ψ t) → Constant ψ t
 is_constant ψ (G.Known n) h = suited h
 is_constant Inf G.Unknown h = unlimited
+is_constant (Upto _) G.Unknown h = elim h [ ]
 
 -- ---- `fetch`, `step` and `put` find the tag t and the offset k: what the two rules of a pair ask for
 

@@ -9,7 +9,7 @@ use Rattle.rules.specs.Machine.{Machine}
 use Rattle.rules.specs.Store.{read_store}
 use Rattle.rules.specs.Run.{start}
 use Rattle.rules.specs.Wrong.{NotWrong}
-use Rattle.rules.specs.Sound.Texts.{passed_counts, passed_never_wrong, accepted_check}
+use Rattle.rules.proofs.Sound.Texts.{passed_counts, passed_never_wrong, accepted_check}
 
 -- the program that a glue text is read as
 abbrev pub program_of : List ℕ → Prog

@@ -5,7 +5,7 @@ use Rattle.std.proofs.lemmas.Bool.{eqb-false}
 use Rattle.rules.specs.Prelude.{ℕ, ◌+◌, ◌<◌, Bool, true, false, List, [], ◌∷◌, ◌++◌, map, ◌≡◌, refl, ap, ◌↔◌, eqb, Answer}
 use Rattle.rules.specs.When.{One, need}
 use Rattle.rules.specs.Answers.{answer, accepted, passes, and_then, first}
-use Rattle.rules.specs.Laws.Tests.{by_when}
+use Rattle.rules.proofs.Laws.Tests.{by_when}
 
 -- ---- each element of a list
 

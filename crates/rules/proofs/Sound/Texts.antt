@@ -16,12 +16,12 @@ use Rattle.rules.specs.Store.Fill.{StoreTables, fill_store}
 use Rattle.rules.specs.Store.{read_store}
 use Rattle.rules.specs.Run.{start}
 use Rattle.rules.specs.Wrong.{GoesOn, VariablesFit, SameBlocks, NotWrong}
-use Rattle.rules.specs.Laws.Accepts.{verdict_exactly, accepted_tables}
-use Rattle.rules.specs.Laws.Steps.{count_until_return, run_same}
-use Rattle.rules.specs.Sound.Facts.{→fits}
-use Rattle.rules.specs.Sound.Run.{sound, Safe, SafeValue, NotStuck, GoodAt, before}
-use Rattle.rules.specs.Sound.StepTables.{run_tables}
-use Rattle.rules.specs.Sound.Starts.{Passed, text_passed, fill_roomy, start_good, program_sized}
+use Rattle.rules.proofs.Laws.Accepts.{verdict_exactly, accepted_tables}
+use Rattle.rules.proofs.Laws.Steps.{count_until_return, run_same}
+use Rattle.rules.proofs.Sound.Facts.{→fits}
+use Rattle.rules.proofs.Sound.Run.{sound, Safe, SafeValue, NotStuck, GoodAt, before}
+use Rattle.rules.proofs.Sound.StepTables.{run_tables}
+use Rattle.rules.proofs.Sound.Starts.{Passed, text_passed, fill_roomy, start_good, program_sized}
 
 -- ---- a safe machine has not gone wrong
 
@@ -31,6 +31,7 @@ moves (D.Jump i) h = refl
 moves (D.SetVar v d) h = refl
 moves (D.SetCell b o d) h = refl
 moves (D.Give d) h = refl
+moves D.Stuck h = elim h [ ]
 
 goes_on : (P : Prog) (m : Machine) (g : Given) → m.value ≡ g → SafeValue P m g → GoesOn P m g
 unfolding says

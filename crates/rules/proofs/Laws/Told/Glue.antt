@@ -18,9 +18,9 @@ use Rattle.rules.specs.Typing.{ty_var, ty_arith, suits_tag, ty_val, immediate, t
 use Rattle.rules.specs.Environments.{start_env, covers}
 use Rattle.rules.specs.Body.{refuse, jump, is_box, is_imm, rule_set, put_at, rule_put, rule_goto, rule_if, rule_ifimm, rule_iftag, rule_ifint, rule_return, rule_label, reached, line_of, local_ok, local_line, body_numbers, types, last_of, is_end, last_line, ends}
 use Rattle.rules.specs.Check.{check, checked, verdict}
-use Rattle.rules.specs.Laws.Tests.{by_need, by_when}
-use Rattle.rules.specs.Laws.Stages.{Each}
-use Rattle.rules.specs.Laws.Told.Numbers.{GlueNo, Told, InGlue, glue_no, accepted_told, first_told, then_told, each_all, each_then}
+use Rattle.rules.proofs.Laws.Tests.{by_need, by_when}
+use Rattle.rules.proofs.Laws.Stages.{Each}
+use Rattle.rules.proofs.Laws.Told.Numbers.{GlueNo, Told, InGlue, glue_no, accepted_told, first_told, then_told, each_all, each_then}
 
 -- ---- 4 and 5
 

@@ -11,8 +11,8 @@ use Rattle.rules.specs.View.{program}
 use Rattle.rules.specs.Names.{names}
 use Rattle.rules.specs.Body.{types, ends, is_end, last_of, last_line}
 use Rattle.rules.specs.Check.{check, checked, verdict}
-use Rattle.rules.specs.Laws.Tests.{by_need, by_when}
-use Rattle.rules.specs.Laws.Stages.{Plain, accepted_plain, refused_plain, first_plain, then_exactly, then_plain}
+use Rattle.rules.proofs.Laws.Tests.{by_need, by_when}
+use Rattle.rules.proofs.Laws.Stages.{Plain, accepted_plain, refused_plain, first_plain, then_exactly, then_plain}
 
 -- ---- no stage gives the number 0 with another line
 

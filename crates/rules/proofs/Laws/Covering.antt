@@ -7,7 +7,7 @@ use Rattle.rules.specs.Prelude.G
 use Rattle.rules.specs.Numbers.{same_num}
 use Rattle.rules.specs.Program.{no_entry}
 use Rattle.rules.specs.Environments.{covers_boxed, covers_offset, covers_tag, covers_entry, covers_first, covers_env}
-use Rattle.rules.specs.Laws.Tests.{and_held, and_both, same→eq, same_refl}
+use Rattle.rules.proofs.Laws.Tests.{and_held, and_both, same→eq, same_refl}
 
 -- ---- parts
 
@@ -22,6 +22,14 @@ unfolding covers_boxed
 boxed_trans B.Either b c h k = tt
 boxed_trans B.Block B.Block B.Block h k = tt
 boxed_trans B.Imm B.Imm B.Imm h k = tt
+boxed_trans B.Block B.Either c h k = elim h [ ]
+boxed_trans B.Block B.Block B.Either h k = elim k [ ]
+boxed_trans B.Block B.Block B.Imm h k = elim k [ ]
+boxed_trans B.Block B.Imm c h k = elim h [ ]
+boxed_trans B.Imm B.Either c h k = elim h [ ]
+boxed_trans B.Imm B.Block c h k = elim h [ ]
+boxed_trans B.Imm B.Imm B.Either h k = elim k [ ]
+boxed_trans B.Imm B.Imm B.Block h k = elim k [ ]
 
 same_trans : (a b c : Num) → T (same_num a b) → T (same_num b c) → T (same_num a c)
 same_trans a b c h k = subst (λ (x : Num). T (same_num a x)) (same→eq b c k) h
@@ -35,6 +43,8 @@ offset_trans : (a b c : Offset) → T (covers_offset a b) → T (covers_offset b
 unfolding covers_offset
 offset_trans I.Unknown b c h k = tt
 offset_trans (I.Known n) (I.Known m) (I.Known l) h k = same_trans n m l h k
+offset_trans (I.Known n) I.Unknown c h k = elim h [ ]
+offset_trans (I.Known n) (I.Known m) I.Unknown h k = elim k [ ]
 
 tag_refl : (t : Tag) → T (covers_tag t t)
 unfolding covers_tag
@@ -45,6 +55,8 @@ tag_trans : (a b c : Tag) → T (covers_tag a b) → T (covers_tag b c) → T (c
 unfolding covers_tag
 tag_trans G.Unknown b c h k = tt
 tag_trans (G.Known n) (G.Known m) (G.Known l) h k = same_trans n m l h k
+tag_trans (G.Known n) G.Unknown c h k = elim h [ ]
+tag_trans (G.Known n) (G.Known m) G.Unknown h k = elim k [ ]
 
 -- ---- entries
 

@@ -13,9 +13,9 @@ use Rattle.rules.specs.Numbers.{num, zero_n, arith_of, among, suits, nat_of}
 use Rattle.rules.specs.Program.{Row, row_there, row_at, Rows, Var, Expr, bad, lit, var, arith, val, int, fetch, step, loosest, no_entry, is_zero, psi_of, prods_of, fields_of, field_of, kind_at}
 use Rattle.rules.specs.Typing.{int_entry, imm_entry, ty_var, arith_tag, ty_arith, suits_tag, ty_val, immediate, ty_int, lone, Spot, nowhere, spot, spot_of, addr_spot, address_of, fetched, ty_fetch, stepped, ty_step, type}
 use Rattle.rules.specs.Machine.{Store, row_in, tag_in, cells_in, inside, cell_at, ev_var, ev_arith, ev_val, ev_int, ev_fetch, moved, ev_step, eval}
-use Rattle.rules.specs.Laws.Tests.{and_both}
-use Rattle.rules.specs.Exactly.Judges.{lone_row}
-use Rattle.rules.specs.Sound.Facts.{Fits, Sound, FitsAll, FitsPlace, AgreesI, AgreesT, MaySit, MayPoint, zero_offset}
+use Rattle.rules.proofs.Laws.Tests.{and_both}
+use Rattle.rules.proofs.Exactly.Judges.{lone_row}
+use Rattle.rules.proofs.Sound.Facts.{Fits, Sound, FitsAll, FitsPlace, AgreesI, AgreesT, MaySit, MayPoint, zero_offset}
 
 abbrev pub NonZero : ℕ → Type 0
 NonZero zero = ⊥
@@ -48,12 +48,19 @@ arith_meets ρ s o (Ok k e) (No n) g h p q = q
 arith_meets ρ s o (Ok (Value r) e) (Ok l d) g h p q = tt
 arith_meets ρ s o (Ok Cint e) (Ok (Value r) d) g h p q = tt
 arith_meets ρ s o (Ok Cint e) (Ok Cint d) (Has (Int a)) (Has (Int b)) p q = arith_agrees o e.tag d.tag a b p q
+arith_meets ρ s o (Ok Cint e) (Ok Cint d) Stuck h p q = elim p [ ]
+arith_meets ρ s o (Ok Cint e) (Ok Cint d) (Has (Int a)) Stuck p q = elim q [ ]
+arith_meets ρ s o (Ok Cint e) (Ok Cint d) (Has (Int a)) (Has (Imm _)) p q = elim q [ ]
+arith_meets ρ s o (Ok Cint e) (Ok Cint d) (Has (Int a)) (Has (Place _ _)) p q = elim q [ ]
+arith_meets ρ s o (Ok Cint e) (Ok Cint d) (Has (Imm _)) h p q = elim p [ ]
+arith_meets ρ s o (Ok Cint e) (Ok Cint d) (Has (Place _ _)) h p q = elim p [ ]
 
 -- ---- val, int
 
 suits_agreed : (ψ : Psi) (t : Tag) (n : Num) → T (suits_tag ψ t) → AgreesT t n → T (suits ψ n)
 suits_agreed Inf t n h p = tt
 suits_agreed (Upto c) (G.Known m) n h p = rw (← p) h
+suits_agreed (Upto c) G.Unknown n h p = elim h [ ]
 
 -- no tag suits a row that is absent
 nothing_suits : (t : Tag) → T (suits_tag (Upto 0) t) → ⊥
@@ -61,6 +68,8 @@ nothing_suits (G.Known n) h = go n.n h
   where
     go : (z : ℤ) → T (among z 0) → ⊥
     go (pos k) h = let x : k < 0 = ltb→lt k 0 h in omega lin
+    go (negsuc _) h = elim h [ ]
+nothing_suits G.Unknown h = elim h [ ]
 
 pub psi_absent : (ρ : Rows) (r : ℕ) → length ρ ≤ r → psi_of ρ r ≡ Upto 0
 unfolding psi_of row_at
@@ -82,6 +91,9 @@ unfolding ty_val ev_val
 val_meets ρ s r (No n) g p = p
 val_meets ρ s r (Ok (Value q) e) g p = tt
 val_meets ρ s r (Ok Cint e) (Has (Int n)) p = val_need ρ s r e n p (suits_tag (psi_of ρ r) e.tag) refl
+val_meets ρ s r (Ok Cint e) Stuck p = elim p [ ]
+val_meets ρ s r (Ok Cint e) (Has (Imm _)) p = elim p [ ]
+val_meets ρ s r (Ok Cint e) (Has (Place _ _)) p = elim p [ ]
 
 -- a row without products has no place in a store that is sound
 pub no_place : (ρ : Rows) (s : Store) → Sound ρ s → (r : ℕ) (e : Entry) (b o : ℕ) → FitsPlace s r e b o → T (immediate e.boxed (prods_of ρ r)) → ⊥
@@ -95,6 +107,8 @@ no_place ρ s W r e b o p h = go e.boxed p.loose h
 
     go : (c : Boxed) → MayPoint c → T (immediate c (prods_of ρ r)) → ⊥
     go B.Either l k = none (eqb→eq (prods_of ρ r) 0 k)
+    go B.Block l k = elim k [ ]
+    go B.Imm l k = elim l [ ]
 
 int_need : (ρ : Rows) (s : Store) → Sound ρ s → (r : ℕ) (e : Entry) (d : Datum) → Fits ρ s (Value r) e (Has d) → (b : Bool) → immediate e.boxed (prods_of ρ r) ≡ b → (c : Bool) → Meets ρ s (need (No 7) b (need (No 10) c (Ok Cint (int_entry e.tag)))) (ev_int (Has d))
 unfolding ev_int
@@ -102,12 +116,14 @@ int_need ρ s W r e d p false h c = tt
 int_need ρ s W r e d p true h false = tt
 int_need ρ s W r e (Imm n) p true h true = p.named
 int_need ρ s W r e (Place b o) p true h true = absurd (no_place ρ s W r e b o p (rw h tt))
+int_need ρ s W r e (Int _) p true h true = elim p [ ]
 
 pub int_meets : (ρ : Rows) (s : Store) → Sound ρ s → (x : Judged) (g : Given) → Meets ρ s x g → Meets ρ s (ty_int ρ x) (ev_int g)
 unfolding ty_int
 int_meets ρ s W (No n) g p = p
 int_meets ρ s W (Ok Cint e) g p = tt
 int_meets ρ s W (Ok (Value r) e) (Has d) p = int_need ρ s W r e d p (immediate e.boxed (prods_of ρ r)) refl (is_zero e.offset)
+int_meets ρ s W (Ok (Value r) e) Stuck p = elim p [ ]
 
 -- ---- addresses
 
@@ -126,6 +142,8 @@ not_lone (Upto c) p n h k = go n.n h
 
     go : (m : ℤ) → T (among m c) → ⊥
     go (pos m) h = let x : m < c = ltb→lt m c h in omega (lin, z)
+    go (negsuc _) h = elim h [ ]
+not_lone Inf p n h k = elim k [ ]
 
 spot_imm : (s : Store) (ψ : Psi) (p : ℕ) (b : Boxed) (i : Offset) (t : Tag) (n : Num) → MaySit b → T (suits ψ n) → Points s (spot_of b i t (lone ψ p)) (Imm n)
 spot_imm s ψ p B.Imm i t n l h = tt
@@ -136,6 +154,7 @@ spot_imm s ψ p B.Either i G.Unknown n l h = go (is_zero i) (lone ψ p) refl
     go true true q = not_lone ψ p n h (rw q tt)
     go true false q = tt
     go false d q = tt
+spot_imm s ψ p B.Block i t n l h = elim l [ ]
 
 spot_place : (s : Store) (ψ : Psi) (p : ℕ) (c : Boxed) (i : Offset) (t : Tag) (b o : ℕ) → MayPoint c → AgreesI i (num (pos o)) → AgreesT t (num (pos (tag_in s b))) → tag_in s b < p → Points s (spot_of c i t (lone ψ p)) (Place b o)
 spot_place s ψ p B.Block I.Unknown t b o l u v h = tt
@@ -151,12 +170,14 @@ spot_place s ψ p B.Either i G.Unknown b o l u v h = go (is_zero i) (lone ψ p) 
         (zero_offset i (num (pos o)) (rw x tt) u, ap (λ (k : ℕ). num (pos k)) y)
     go true false x q = tt
     go false d x q = tt
+spot_place s ψ p B.Imm i t b o l u v h = elim l [ ]
 
 spot_points : (ρ : Rows) (s : Store) → Sound ρ s → (r : ℕ) (e : Entry) (d : Datum) → Fits ρ s (Value r) e (Has d) → Points s (spot_of e.boxed e.offset e.tag (lone (psi_of ρ r) (prods_of ρ r))) d
 spot_points ρ s W r e (Imm n) p = spot_imm s (psi_of ρ r) (prods_of ρ r) e.boxed e.offset e.tag n p.loose p.suited
 spot_points ρ s W r e (Place b o) p =
     let q : tag_in s b < prods_of ρ (row_in s b) = W.tags b p.there in
     spot_place s (psi_of ρ r) (prods_of ρ r) e.boxed e.offset e.tag b o p.loose p.offset p.tag (rw p.row at q)
+spot_points ρ s W r e (Int _) p = elim p [ ]
 
 -- an address that is right: the datum is a place of row r, and moved by m it lies inside its block, whose tag is the address's
 pub record Lands (ρ : Rows) (s : Store) (r b o : ℕ) (m : Num) (t o' : ℕ) : Type 0 where
@@ -196,6 +217,8 @@ aim_lands ρ s W r e d p x m a nowhere h = tt
 aim_lands ρ s W r e d p G.Unknown m a (spot i t) h = tt
 aim_lands ρ s W r e (Place b o) p (G.Known c) m a (spot i t) h =
     aim_at ρ s W r e b o p m t.n (i.n +ℤ c.n) (ap (λ (x : Num). x.n) h.1) (ap₂ (λ (x y : Num). x.n +ℤ y.n) (sym h.0) (sym a))
+aim_lands ρ s W r e (Int _) p (G.Known c) m a (spot i t) h = elim p [ ]
+aim_lands ρ s W r e (Imm _) p (G.Known c) m a (spot i t) h = elim h [ ]
 
 -- the rule of an address, whole
 pub address : (ρ : Rows) (s : Store) → Sound ρ s → (r : ℕ) (e : Entry) (d : Datum) → Fits ρ s (Value r) e (Has d) → (x : Tag) (m : Num) → AgreesT x m → Aims ρ s r d m (address_of ρ r e x)
@@ -214,12 +237,15 @@ fetch_lands ρ s W r (Place b o) (A.At t o') h =
     let k : o < cells_in s b = subst (λ (z : ℕ). z < cells_in s b) same h.inside in
     let c : Fits ρ s (Value (field_of ρ (row_in s b) (tag_in s b) o)) loosest (cell_at s b o) = W.cells b o h.there k in
     rw (is_inside s b o h.there k, same, ← h.row, ← h.tag) c
+fetch_lands ρ s W r (Int _) (A.At t o') h = elim h [ ]
+fetch_lands ρ s W r (Imm _) (A.At t o') h = elim h [ ]
 
 pub fetch_meets : (ρ : Rows) (s : Store) → Sound ρ s → (x : Judged) (g : Given) → Meets ρ s x g → Meets ρ s (ty_fetch ρ x) (ev_fetch s g)
 unfolding ty_fetch
 fetch_meets ρ s W (No n) g p = p
 fetch_meets ρ s W (Ok Cint e) g p = tt
 fetch_meets ρ s W (Ok (Value r) e) (Has d) p = fetch_lands ρ s W r d (address_of ρ r e (G.Known zero_n)) (address ρ s W r e d p (G.Known zero_n) zero_n refl)
+fetch_meets ρ s W (Ok (Value r) e) Stuck p = elim p [ ]
 
 step_lands : (ρ : Rows) (s : Store) (r : ℕ) (d : Datum) (m : Num) (a : Addr) → Aims ρ s r d m a → Meets ρ s (stepped r a) (ev_step s (Has d) (Has (Int m)))
 unfolding ev_step moved
@@ -227,6 +253,8 @@ step_lands ρ s r d m (A.Bad n) h = h
 step_lands ρ s r (Place b o) m (A.At t o') h =
     rw (h.moves, is_inside s b o' h.there h.inside)
     (record { loose = tt; there = h.there; row = h.row; offset = refl; tag = ap (λ (k : ℕ). num (pos k)) (sym h.tag); inside = h.inside })
+step_lands ρ s r (Int _) m (A.At t o') h = elim h [ ]
+step_lands ρ s r (Imm _) m (A.At t o') h = elim h [ ]
 
 pub step_meets : (ρ : Rows) (s : Store) → Sound ρ s → (x y : Judged) (g k : Given) → Meets ρ s x g → Meets ρ s y k → Meets ρ s (ty_step ρ x y) (ev_step s g k)
 unfolding ty_step
@@ -235,6 +263,10 @@ step_meets ρ s W (Ok l e) (No n) g k p q = q
 step_meets ρ s W (Ok Cint e) (Ok l d) g k p q = tt
 step_meets ρ s W (Ok (Value r) e) (Ok (Value v) d) g k p q = tt
 step_meets ρ s W (Ok (Value r) e) (Ok Cint d) (Has a) (Has (Int m)) p q = step_lands ρ s r a m (address_of ρ r e d.tag) (address ρ s W r e a p d.tag m q)
+step_meets ρ s W (Ok (Value r) e) (Ok Cint d) Stuck k p q = elim p [ ]
+step_meets ρ s W (Ok (Value r) e) (Ok Cint d) (Has a) Stuck p q = elim q [ ]
+step_meets ρ s W (Ok (Value r) e) (Ok Cint d) (Has a) (Has (Imm _)) p q = elim q [ ]
+step_meets ρ s W (Ok (Value r) e) (Ok Cint d) (Has a) (Has (Place _ _)) p q = elim q [ ]
 
 -- ---- the theorem of expressions
 

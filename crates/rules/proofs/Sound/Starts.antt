@@ -23,14 +23,14 @@ use Rattle.rules.specs.Store.Text.{arg_word, Counted, counted_out, store_lines, 
 use Rattle.rules.specs.Store.Fill.{after_arg, StoreTables, no_store_tables, local_datum, fill_cells, fill_vals, fill_blocks, fill_store, next_line, store_names}
 use Rattle.rules.specs.Store.{store_fits, judged, read_store, params_of, StoreOut}
 use Rattle.rules.specs.Run.{start}
-use Rattle.rules.specs.Laws.Tests.{by_when}
-use Rattle.rules.specs.Laws.Stages.{Each, Zero, each_append, each_map, first_exactly, need_exactly, then_later}
-use Rattle.rules.specs.Laws.Lists.{tab_in, tab_all, tab_length}
-use Rattle.rules.specs.Laws.Small.{Small, SmallN, word_is_small, datum_again}
-use Rattle.rules.specs.Sound.Facts.{Fits, fits→, store_sound, each_at}
-use Rattle.rules.specs.Sound.Line.{Sized, Good}
-use Rattle.rules.specs.Sound.Run.{locals_zero}
-use Rattle.rules.specs.Sound.StepTables.{Roomy, vals_length, vars_most}
+use Rattle.rules.proofs.Laws.Tests.{by_when}
+use Rattle.rules.proofs.Laws.Stages.{Each, Zero, each_append, each_map, first_exactly, need_exactly, then_later}
+use Rattle.rules.proofs.Laws.Lists.{tab_in, tab_all, tab_length}
+use Rattle.rules.proofs.Laws.Small.{Small, SmallN, word_is_small, datum_again}
+use Rattle.rules.proofs.Sound.Facts.{Fits, fits→, store_sound, each_at}
+use Rattle.rules.proofs.Sound.Line.{Sized, Good}
+use Rattle.rules.proofs.Sound.Run.{locals_zero}
+use Rattle.rules.proofs.Sound.StepTables.{Roomy, vals_length, vars_most}
 
 vals_room : length no_store_tables.vals ≡ limits.variables
 unfolding no_store_tables

@@ -7,7 +7,7 @@ use Rattle.rules.specs.Prelude.B
 use Rattle.rules.specs.Prelude.A
 use Rattle.rules.specs.Program.{Rows, loosest, field_of}
 use Rattle.rules.specs.Machine.{Store, Block, block_at, row_in, tag_in, cells_in, inside, cell_at, set_cell}
-use Rattle.rules.specs.Sound.Facts.{Sound, Fits}
+use Rattle.rules.proofs.Sound.Facts.{Sound, Fits}
 
 -- a part of an element that a write to the list keeps
 set_keeps : {A B : Type 0} (f : A → B) (l : List A) (i j : ℕ) (x z : A) → f x ≡ f (get_or l i z) → f (get_or (set l i x) j z) ≡ f (get_or l j z)
@@ -39,6 +39,11 @@ module _ (s : Store) (b o : ℕ) (d : Datum) where
   fits_keeps ρ (Value r) e (Has (Imm n)) p = p
   fits_keeps ρ (Value r) e (Has (Place c i)) p =
       record { loose = p.loose; there = rw count_keeps p.there; row = row_keeps c ∙ p.row; offset = p.offset; tag = rw (tag_keeps c) p.tag; inside = rw (len_keeps c) p.inside }
+  fits_keeps ρ Cint e Stuck p = elim p [ ]
+  fits_keeps ρ Cint e (Has (Imm n)) p = elim p [ ]
+  fits_keeps ρ Cint e (Has (Place c i)) p = elim p [ ]
+  fits_keeps ρ (Value r) e Stuck p = elim p [ ]
+  fits_keeps ρ (Value r) e (Has (Int n)) p = elim p [ ]
 
   cell_here : b < length s → o < cells_in s b → cell_at (set_cell s b o d) b o ≡ Has d
   unfolding cell_at set_cell cells_in

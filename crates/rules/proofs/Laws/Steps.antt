@@ -6,7 +6,7 @@ use Rattle.rules.specs.Prelude.S
 use Rattle.rules.specs.Program.{Prog}
 use Rattle.rules.specs.Machine.{Store, decide, Machine, apply, step_from, step_of, run_of, says_act, says_from, says}
 use Rattle.rules.specs.Wrong.{SameBlocks}
-use Rattle.rules.specs.Sound.Keeps.{row_keeps, tag_keeps, len_keeps, count_keeps}
+use Rattle.rules.proofs.Sound.Keeps.{row_keeps, tag_keeps, len_keeps, count_keeps}
 
 -- ---- what a step says of itself
 
@@ -31,6 +31,11 @@ IsReturned S.Spent = ⊥
 nothing_done : (a : Act) (m : Machine) → IsStuck (says_act a) → apply a m ≡ m
 unfolding apply
 nothing_done D.Stuck m h = refl
+nothing_done D.Fall m h = elim h [ ]
+nothing_done (D.Jump _) m h = elim h [ ]
+nothing_done (D.SetVar _ _) m h = elim h [ ]
+nothing_done (D.SetCell _ _ _) m h = elim h [ ]
+nothing_done (D.Give _) m h = elim h [ ]
 
 -- a stuck step changes nothing
 pub stuck_changes_nothing : (P : Prog) (m : Machine) → says P m ≡ S.Stuck → step_of P m ≡ m
@@ -39,6 +44,7 @@ stuck_changes_nothing P m h = go m.value (subst IsStuck (sym h) tt)
   where
     go : (g : Given) → IsStuck (says_from P m g) → step_from P m g ≡ m
     go Stuck h = nothing_done (decide P m.store m.vals m.at) m h
+    go (Has _) h = elim h [ ]
 
 never_returned : (a : Act) → IsReturned (says_act a) → ⊥
 never_returned D.Stuck h = h
@@ -64,6 +70,7 @@ one_more_lem (D.Jump i) m h = refl
 one_more_lem (D.SetVar v d) m h = refl
 one_more_lem (D.SetCell b o d) m h = refl
 one_more_lem (D.Give d) m h = refl
+one_more_lem D.Stuck m h = elim h [ ]
 
 -- any other step counts one
 pub moved_counts : (P : Prog) (m : Machine) → says P m ≡ S.Moved → (step_of P m).steps ≡ m.steps + 1
@@ -72,6 +79,7 @@ moved_counts P m h = go m.value (subst IsMoved (sym h) tt)
   where
     go : (g : Given) → IsMoved (says_from P m g) → (step_from P m g).steps ≡ m.steps + 1
     go Stuck h = one_more_lem (decide P m.store m.vals m.at) m h
+    go (Has _) h = elim h [ ]
 
 -- ---- runs
 

@@ -6,16 +6,16 @@ use native.Mathlib.Omega.{arith as lin}
 use Rattle.rules.specs.Prelude.{ℕ, zero, suc, ◌+◌, ◌-◌, ◌*◌, ◌/◌, ◌%◌, ◌<◌, ◌≤◌, Bool, true, false, not, ◌&&◌, List, ◌≡◌, refl, ap, ◌∙◌, ltb, eqb, ℤ, pos, negsuc, ◌+ℤ◌, length, get_or, set, Num, Op, Datum, Int, Imm, Place, Given, Stuck, Has, Act}
 use Rattle.rules.specs.Prelude.D
 use Rattle.rules.specs.When.{when}
-use Rattle.rules.specs.Numbers.{eq_z, zero_n, same_num}
+use Rattle.rules.specs.Numbers.{eq_z, zero_n, same_num, num_code}
 use Rattle.rules.specs.Limits.{limits}
 use Rattle.rules.specs.Text.Layout.{Tables, cell}
 use Rattle.rules.specs.Program.{Rows, row_there, Expr, bad, lit, var, arith, val, int, fetch, step, Stmt, bad_s, set_s, put_s, goto_s, if_s, ifimm_s, iftag_s, ifint_s, return_s, label_s, label_there, Prog}
 use Rattle.rules.specs.View.{body_from, vars_from, form_of, Walked, walked, one, two, tree_node, tree_at, Form, none, lit_f, var_f, fetch_f, int_f, val_f, step_f, calc, with_one, with_two, tree_of, Way, no_w, set_w, put_w, goto_w, if_w, ifimm_w, iftag_w, ifint_w, return_w, label_w, stmt_of, stmt_from, program, tab, up_to}
 use Rattle.rules.specs.Machine.Tables.{block_width, head_width, run_t, datum_code, code_of, MTables, block_from, store_of, vals_of, machine, apply_t, step_from_t, step_t}
 use Rattle.rules.specs.Machine.{tag_in, ev_arith, ev_val, ev_int, ev_fetch, ev_step, need_place, no_block, ev_var, moved, eval, jump_if, jump_on, store_at, act_set, act_put, act_if, act_ifimm, act_iftag, act_ifint, act_return, act, inside, cells_in, cell_at, run_of, Store, decide, set_cell, apply, step_from, step_of}
-use Rattle.rules.specs.Laws.Tests.{by_need, and_both}
-use Rattle.rules.specs.Laws.Lists.{tab_all, tab_length, tab_in, tab_ext, tab_set, up_to_le}
-use Rattle.rules.specs.Laws.Small.{Small, SmallN, datum_small, datum_again, arith_small, word_is_small}
+use Rattle.rules.proofs.Laws.Tests.{by_need, and_both}
+use Rattle.rules.proofs.Laws.Lists.{tab_all, tab_length, tab_in, tab_ext, tab_set, up_to_le}
+use Rattle.rules.proofs.Laws.Small.{Small, SmallN, datum_small, datum_again, arith_small, word_is_small}
 
 vals_set : (n : ℕ) (W : List ℕ) (v c : ℕ) (g : Given) → v < length W → datum_code c ≡ g → vals_of n (set W v c) ≡ set (vals_of n W) v g
 unfolding vals_of
@@ -141,7 +141,7 @@ line_small : (N : List ℕ) (way : Way) (l v w k : ℕ) → SmallS (stmt_of N wa
 unfolding stmt_of
 line_small N no_w l v w k = tt
 line_small N set_w l v w k = one_line_lem (set_s v) (λ x p. p) (tree_at N limits.depth k) (tree_small N limits.depth k)
-line_small N put_w l v w k = two_line N _ (λ x y p q. (p, q)) (tree_at N limits.depth k) (tree_small N limits.depth k)
+line_small N put_w l v w k = two_line N (λ x y. put_s x (num_code w) y) (λ x y p q. (p, q)) (tree_at N limits.depth k) (tree_small N limits.depth k)
 line_small N goto_w l v w k = tt
 line_small N if_w l v w k = one_line_lem (if_s l) (λ x p. p) (tree_at N limits.depth k) (tree_small N limits.depth k)
 line_small N ifimm_w l v w k = tt
@@ -217,6 +217,8 @@ module _ (t : MTables) where
   moved_small : (g : Given) → InsideOf σ g → Small g
   moved_small Stuck h = tt
   moved_small (Has (Place b o)) h = let x : cells_in σ b ≤ block_width = width_most b in let y : o < cells_in σ b = h.1 in omega lin
+  moved_small (Has (Int _)) h = elim h [ ]
+  moved_small (Has (Imm _)) h = elim h [ ]
 
   fetch_gives : (g : Given) → Small (ev_fetch σ g)
   unfolding ev_fetch
@@ -290,6 +292,8 @@ module _ (t : MTables) where
           go : (g : Given) → InsideOf σ g → Stays (need_place D.Stuck g (λ c i. store_at c i y))
           go Stuck h = tt
           go (Has (Place c i)) h = store_stays c i h.0 h.1 y p
+          go (Has (Int _)) h = elim h [ ]
+          go (Has (Imm _)) h = elim h [ ]
 
       if_stays : (l : ℕ) (g : Given) → Stays (act_if P l g)
       unfolding act_if

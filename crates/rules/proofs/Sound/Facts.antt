@@ -12,8 +12,8 @@ use Rattle.rules.specs.Numbers.{zero_n, num, suits}
 use Rattle.rules.specs.Program.{Rows, Var, loosest, no_entry, is_zero, psi_of, prods_of, fields_of, field_of, kind_at, agree}
 use Rattle.rules.specs.Machine.{inside, no_block, Block, block_at, cell_at, Store, row_in, tag_in, cells_in}
 use Rattle.rules.specs.Fits.{right_shape, cells_fit, block_number, fits, fits_imm, fits_place, offset_is, tag_is, not_box, not_imm}
-use Rattle.rules.specs.Laws.Tests.{same_refl, same→eq, and_held, and_both}
-use Rattle.rules.specs.Laws.Stages.{need_exactly, Each}
+use Rattle.rules.proofs.Laws.Tests.{same_refl, same→eq, and_held, and_both}
+use Rattle.rules.proofs.Laws.Stages.{need_exactly, Each}
 
 -- ---- fitting
 
@@ -78,16 +78,19 @@ pos_of n m e = let q : pos n ≡ pos m = ap (λ (x : Num). x.n) e in cc
 
 pub zero_offset : (i : Offset) (z : Num) → T (is_zero i) → AgreesI i z → zero_n ≡ z
 zero_offset (I.Known n) z h p = sym (same→eq n zero_n h) ∙ p
+zero_offset I.Unknown z h p = elim h [ ]
 
 -- ---- the test of fitting tells the facts
 
 sits : (b : Boxed) → T (not_box b) → MaySit b
 sits B.Either h = tt
 sits B.Imm h = tt
+sits B.Block h = elim h [ ]
 
 points : (b : Boxed) → T (not_imm b) → MayPoint b
 points B.Either h = tt
 points B.Block h = tt
+points B.Imm h = elim h [ ]
 
 offset_agrees : (i : Offset) (n : Num) → T (offset_is i n) → AgreesI i n
 offset_agrees I.Unknown n h = tt
@@ -112,16 +115,23 @@ fits→ ρ s (Value r) e (Has (Place b o)) h =
     let x = and_both (tag_is e.tag (num (pos (tag_in s b)))) (inside s b o) w.1 in
     let y = and_both (ltb b (length s)) (ltb o (cells_in s b)) x.1 in
     record { loose = points e.boxed u.0; there = ltb→lt b (length s) y.0; row = eqb→eq (row_in s b) r v.0; offset = offset_agrees e.offset (num (pos o)) w.0; tag = tag_agrees e.tag (num (pos (tag_in s b))) x.0; inside = ltb→lt o (cells_in s b) y.1 }
+fits→ ρ s Cint e Stuck h = elim h [ ]
+fits→ ρ s Cint e (Has (Imm n)) h = elim h [ ]
+fits→ ρ s Cint e (Has (Place b o)) h = elim h [ ]
+fits→ ρ s (Value r) e Stuck h = elim h [ ]
+fits→ ρ s (Value r) e (Has (Int n)) h = elim h [ ]
 
 -- ---- and the facts pass the test
 
 sits_back : (b : Boxed) → MaySit b → T (not_box b)
 sits_back B.Either h = tt
 sits_back B.Imm h = tt
+sits_back B.Block h = elim h [ ]
 
 points_back : (b : Boxed) → MayPoint b → T (not_imm b)
 points_back B.Either h = tt
 points_back B.Block h = tt
+points_back B.Imm h = elim h [ ]
 
 offset_back : (i : Offset) (n : Num) → AgreesI i n → T (offset_is i n)
 offset_back I.Unknown n h = tt
@@ -144,6 +154,11 @@ unfolding fits fits_imm fits_place
     (and_held (offset_is e.offset (num (pos o))) _ (offset_back e.offset (num (pos o)) h.offset)
     (and_held (tag_is e.tag (num (pos (tag_in s b)))) (inside s b o) (tag_back e.tag (num (pos (tag_in s b))) h.tag)
     (and_held (ltb b (length s)) (ltb o (cells_in s b)) (lt→ltb b (length s) h.there) (lt→ltb o (cells_in s b) h.inside)))))
+→fits ρ s Cint e Stuck h = elim h [ ]
+→fits ρ s Cint e (Has (Imm n)) h = elim h [ ]
+→fits ρ s Cint e (Has (Place b o)) h = elim h [ ]
+→fits ρ s (Value r) e Stuck h = elim h [ ]
+→fits ρ s (Value r) e (Has (Int n)) h = elim h [ ]
 
 -- ---- a store that passes is sound
 

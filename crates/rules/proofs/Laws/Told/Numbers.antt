@@ -6,8 +6,8 @@ use Rattle.rules.specs.Prelude.{ℕ, ◌+◌, Bool, true, false, ◌&&◌, ◌||
 use Rattle.rules.specs.Prelude.C
 use Rattle.rules.specs.When.{One}
 use Rattle.rules.specs.Answers.{answer, accepted, passes, and_then, first, answer_of, case_of}
-use Rattle.rules.specs.Laws.Tests.{by_when}
-use Rattle.rules.specs.Laws.Stages.{Each, each_append}
+use Rattle.rules.proofs.Laws.Tests.{by_when}
+use Rattle.rules.proofs.Laws.Stages.{Each, each_append}
 
 -- ---- the numbers that a line may have
 
@@ -35,6 +35,7 @@ one_or_rest p n m false rest q h f t = f t
 
 each_of : (p : ℕ → Type 0) (ms : List ℕ) → Each p ms → (n : ℕ) → T (one_of ms n) → p n
 each_of p (m ∷ ms) h n t = one_or_rest p n m (eqb n m) (one_of ms n) refl h.0 (each_of p ms h.1 n) t
+each_of p [] h n t = elim t [ ]
 
 -- ---- an answer has a case, with a number of its table
 
@@ -86,6 +87,24 @@ line_of_case : (v : Verdict) → NoLine (answer_of v).number → (answer_of v).l
 line_of_case C.Accepted h = refl
 line_of_case C.TooLong h = refl
 line_of_case C.StoreTooLong h = refl
+line_of_case (C.Shape _) h = elim h [ ]
+line_of_case (C.Limit _) h = elim h [ ]
+line_of_case (C.Absent _) h = elim h [ ]
+line_of_case (C.IntEntry _) h = elim h [ ]
+line_of_case (C.WrongKind _) h = elim h [ ]
+line_of_case (C.NotKnown _) h = elim h [ ]
+line_of_case (C.Outside _) h = elim h [ ]
+line_of_case (C.NotAllowed _) h = elim h [ ]
+line_of_case (C.NotZero _) h = elim h [ ]
+line_of_case (C.NotCovered _) h = elim h [ ]
+line_of_case (C.NotReached _) h = elim h [ ]
+line_of_case (C.NoEnd _) h = elim h [ ]
+line_of_case (C.StoreShape _) h = elim h [ ]
+line_of_case (C.StoreLimit _) h = elim h [ ]
+line_of_case (C.StoreAbsent _) h = elim h [ ]
+line_of_case (C.StoreBlock _) h = elim h [ ]
+line_of_case (C.StoreCell _) h = elim h [ ]
+line_of_case (C.StoreArgument _) h = elim h [ ]
 
 pub no_line : (a : Answer) → answer_of (case_of a) ≡ a → NoLine a.number → a.line ≡ 0
 no_line a e = subst (λ (x : Answer). NoLine x.number → x.line ≡ 0) e (line_of_case (case_of a))

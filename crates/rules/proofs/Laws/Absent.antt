@@ -57,6 +57,7 @@ either : {A : Type 0} (f : Given → Given → A) (stuck : A) (c d : Bool) (x y 
     → (T (not c) → x ≡ Stuck) → (T (not d) → y ≡ Stuck) → T (not (c && d)) → f x y ≡ stuck
 either f stuck false d x y l r p q h = rw (p tt) (l y)
 either f stuck true false x y l r p q h = rw (q tt) (r x)
+either {A = A} f stuck true true x y l r p q h = elim h [ ]
 
 row_first : (ρ : Rows) (r : ℕ) (x : Given) (c : Bool) → row_there ρ r ≡ c → T (not c) → ev_val ρ r x ≡ Stuck
 unfolding ev_val
@@ -64,6 +65,10 @@ row_first ρ r Stuck false e h = refl
 row_first ρ r (Has (Int n)) false e h = rw e
 row_first ρ r (Has (Imm n)) false e h = refl
 row_first ρ r (Has (Place b o)) false e h = refl
+row_first ρ r Stuck true e h = elim h [ ]
+row_first ρ r (Has (Int n)) true e h = elim h [ ]
+row_first ρ r (Has (Imm n)) true e h = elim h [ ]
+row_first ρ r (Has (Place b o)) true e h = elim h [ ]
 
 same_either : (c : Bool) → need D.Stuck c D.Stuck ≡ D.Stuck
 same_either true = refl
@@ -73,11 +78,13 @@ module _ (P : Prog) (s : Store) (δ : List Given) (size : length δ ≡ length P
   var_absent : (v : ℕ) (c : Bool) → var_there P.vars v ≡ c → T (not c) → ev_var δ v ≡ Stuck
   unfolding ev_var
   var_absent v false e h = let x : length P.vars ≤ v = ltb-false v (length P.vars) e in get_or-eq_default δ Stuck (omega lin)
+  var_absent v true e h = elim h [ ]
 
   val_absent : (r : ℕ) (x : Given) (c d : Bool) → row_there P.rows r ≡ c → (T (not d) → x ≡ Stuck) → T (not (c && d)) → ev_val P.rows r x ≡ Stuck
   unfolding ev_val
   val_absent r x false d e q h = row_first P.rows r x false e tt
   val_absent r x true false e q h = rw (q tt)
+  val_absent r x true true e q h = elim h [ ]
 
   pub expr_absent : (x : Expr) → T (not (expr_there P x)) → eval P.rows s δ x ≡ Stuck
   unfolding eval expr_there ev_int ev_fetch
@@ -88,10 +95,12 @@ module _ (P : Prog) (s : Store) (δ : List Given) (size : length δ ≡ length P
   expr_absent (int x) h = rw (expr_absent x h)
   expr_absent (fetch x) h = rw (expr_absent x h)
   expr_absent (step x y) h = either (ev_step s) Stuck (expr_there P x) (expr_there P y) (eval P.rows s δ x) (eval P.rows s δ y) (step_first s) (step_second s) (expr_absent x) (expr_absent y) h
+  expr_absent (Rattle.rules.specs.Program.lit _) h = elim h [ ]
 
   jump_absent : (l : ℕ) (b c : Bool) → label_there P l ≡ c → T (not c) → jump_on P l b ≡ D.Stuck
   unfolding jump_on
   jump_absent l b false e h = rw e
+  jump_absent l b true e h = elim h [ ]
 
   -- ---- lines: stuck where a name is absent, and where an operand is
 
@@ -99,6 +108,8 @@ module _ (P : Prog) (s : Store) (δ : List Given) (size : length δ ≡ length P
   unfolding act_set
   set_absent v Stuck false e h = refl
   set_absent v (Has g) false e h = rw (size, e)
+  set_absent v Stuck true e h = elim h [ ]
+  set_absent v (Has g) true e h = elim h [ ]
 
   none_set : (v : ℕ) → act_set δ v Stuck ≡ D.Stuck
   unfolding act_set
@@ -152,6 +163,7 @@ module _ (P : Prog) (s : Store) (δ : List Given) (size : length δ ≡ length P
   on_operand : (f : Given → Act) (c d : Bool) (x : Given) → ((x : Given) → T (not c) → f x ≡ D.Stuck) → f Stuck ≡ D.Stuck → (T (not d) → x ≡ Stuck) → T (not (c && d)) → f x ≡ D.Stuck
   on_operand f false d x l e q h = l x tt
   on_operand f true false x l e q h = rw (q tt) e
+  on_operand f true true x l e q h = elim h [ ]
 
   -- a table names something absent, or nests past 16
   pub absent_stuck : (st : Stmt) → T (not (stmt_there P st)) → act P s δ st ≡ D.Stuck

@@ -15,9 +15,9 @@ use Rattle.rules.specs.Typing.{int_entry, address_of, fetched, ty_fetch, stepped
 use Rattle.rules.specs.Environments.{with_entry, covers}
 use Rattle.rules.specs.Body.{goes, refuse, jump, is_box, is_imm, rule_set, put_at, rule_put, rule_goto, rule_if, rule_ifimm, rule_iftag, rule_ifint, rule_return, rule_label, line_of}
 use Rattle.rules.specs.Published.{Judges, Jumps, Allows, vset_stmt, lset_stmt, goto_stmt, if_stmt, if_unboxed_stmt, if_sum_tag_stmt, if_int_tag_stmt, ret_stmt, lbl_stmt}
-use Rattle.rules.specs.Laws.Tests.{held, and_both, by_need}
-use Rattle.rules.specs.Laws.Stages.{Zero}
-use Rattle.rules.specs.Exactly.Judges.{judged, derives, Derives, Finds, finds, found, inside, known, offset_is_zero, known_parts, stored}
+use Rattle.rules.proofs.Laws.Tests.{held, and_both, by_need}
+use Rattle.rules.proofs.Laws.Stages.{Zero}
+use Rattle.rules.proofs.Exactly.Judges.{judged, derives, Derives, Finds, finds, found, inside, known, offset_is_zero, known_parts, stored}
 
 -- ---- statements: what is accepted is allowed
 
@@ -27,9 +27,13 @@ Permits P Γ s x = Zero x.answer → Allows P Γ s x.live x.env
 
 is_box_lem : (b : Boxed) → T (is_box b) → b ≡ B.Block
 is_box_lem B.Block h = refl
+is_box_lem B.Either h = elim h [ ]
+is_box_lem B.Imm h = elim h [ ]
 
 is_imm_lem : (b : Boxed) → T (is_imm b) → b ≡ B.Imm
 is_imm_lem B.Imm h = refl
+is_imm_lem B.Either h = elim h [ ]
+is_imm_lem B.Block h = elim h [ ]
 
 module _ (P : Prog) (Γ : Env) where
   refusing : {s : Stmt} (n : ℕ) → 0 < n → Permits P Γ s (refuse n Γ)

@@ -21,10 +21,10 @@ use Rattle.rules.specs.Typing.{ty_var, address_of, type}
 use Rattle.rules.specs.Environments.{covers_env, with_entry, with_boxed, with_tag, label_env, covers_boxed, covers_offset, covers_tag, covers_entry, covers_first, covers}
 use Rattle.rules.specs.Body.{put_at, goes, refuse, jump, is_box, is_imm, rule_set, rule_put, rule_goto, rule_if, rule_ifimm, rule_iftag, rule_ifint, rule_return, rule_label, line_of}
 use Rattle.rules.specs.Machine.{jump_if, store_at, moved, jump_on, row_in, act_if, Store, tag_in, cells_in, inside, ev_var, eval, act_set, act_put, act_ifimm, act_iftag, act_ifint, act_return, act, set_cell}
-use Rattle.rules.specs.Laws.Tests.{held, and_both, eq_z→eq, same→eq}
-use Rattle.rules.specs.Sound.Facts.{Sound, Fits, AgreesI, AgreesT, MaySit, MayPoint, FitsImm, FitsPlace, FitsAll, pos_of, zero_offset}
-use Rattle.rules.specs.Sound.Expr.{NonZero, Meets, address, Aims, expr_sound, is_inside}
-use Rattle.rules.specs.Sound.Keeps.{put_sound, fits_keeps}
+use Rattle.rules.proofs.Laws.Tests.{held, and_both, eq_z→eq, same→eq}
+use Rattle.rules.proofs.Sound.Facts.{Sound, Fits, AgreesI, AgreesT, MaySit, MayPoint, FitsImm, FitsPlace, FitsAll, pos_of, zero_offset}
+use Rattle.rules.proofs.Sound.Expr.{NonZero, Meets, address, Aims, expr_sound, is_inside}
+use Rattle.rules.proofs.Sound.Keeps.{put_sound, fits_keeps}
 
 -- ---- the state fits an environment; what a line says and what it does agree
 
@@ -60,6 +60,7 @@ Promises (suc n) P x δ s a = Unit
 
 refused : (n : ℕ) (P : Prog) (Γ : Env) (δ : List Given) (s : Store) (a : Act) → NonZero n → Promises n P (refuse n Γ) δ s a
 refused (suc n) P Γ δ s a h = tt
+refused zero P Γ δ s a h = elim h [ ]
 
 -- ---- covering
 
@@ -68,22 +69,32 @@ unfolding covers_boxed
 covers_boxed_sits B.Either h t p = tt
 covers_boxed_sits B.Imm B.Imm t p = tt
 covers_boxed_sits B.Block B.Block t p = p
+covers_boxed_sits B.Block B.Either t p = elim t [ ]
+covers_boxed_sits B.Block B.Imm t p = elim t [ ]
+covers_boxed_sits B.Imm B.Either t p = elim t [ ]
+covers_boxed_sits B.Imm B.Block t p = elim t [ ]
 
 covers_boxed_points : (l h : Boxed) → T (covers_boxed l h) → MayPoint h → MayPoint l
 unfolding covers_boxed
 covers_boxed_points B.Either h t p = tt
 covers_boxed_points B.Block B.Block t p = tt
 covers_boxed_points B.Imm B.Imm t p = p
+covers_boxed_points B.Block B.Either t p = elim t [ ]
+covers_boxed_points B.Block B.Imm t p = elim t [ ]
+covers_boxed_points B.Imm B.Either t p = elim t [ ]
+covers_boxed_points B.Imm B.Block t p = elim t [ ]
 
 covers_offset_lem : (l h : Offset) (z : Num) → T (covers_offset l h) → AgreesI h z → AgreesI l z
 unfolding covers_offset
 covers_offset_lem I.Unknown h z t p = tt
 covers_offset_lem (I.Known n) (I.Known m) z t p = same→eq n m t ∙ p
+covers_offset_lem (I.Known n) I.Unknown z t p = elim t [ ]
 
 covers_tag_lem : (l h : Tag) (z : Num) → T (covers_tag l h) → AgreesT h z → AgreesT l z
 unfolding covers_tag
 covers_tag_lem G.Unknown h z t p = tt
 covers_tag_lem (G.Known n) (G.Known m) z t p = same→eq n m t ∙ p
+covers_tag_lem (G.Known n) G.Unknown z t p = elim t [ ]
 
 covers_fits : (ρ : Rows) (s : Store) (k : Kind) (l h : Entry) (g : Given) → T (covers_entry l h) → Fits ρ s k h g → Fits ρ s k l g
 unfolding covers_entry
@@ -99,6 +110,11 @@ covers_fits ρ s k l h g t p = go k g p
     go Cint (Has (Int n)) p = covers_tag_lem l.tag h.tag n h₂.1 p
     go (Value r) (Has (Imm n)) p = record { loose = covers_boxed_sits l.boxed h.boxed h₁.0 p.loose; still = covers_offset_lem l.offset h.offset zero_n h₂.0 p.still; named = covers_tag_lem l.tag h.tag n h₂.1 p.named; suited = p.suited }
     go (Value r) (Has (Place b o)) p = record { loose = covers_boxed_points l.boxed h.boxed h₁.0 p.loose; there = p.there; row = p.row; offset = covers_offset_lem l.offset h.offset (num (pos o)) h₂.0 p.offset; tag = covers_tag_lem l.tag h.tag (num (pos (tag_in s b))) h₂.1 p.tag; inside = p.inside }
+    go Cint Stuck p = elim p [ ]
+    go Cint (Has (Imm n)) p = elim p [ ]
+    go Cint (Has (Place b o)) p = elim p [ ]
+    go (Value r) Stuck p = elim p [ ]
+    go (Value r) (Has (Int n)) p = elim p [ ]
 
 covers_at : (n : ℕ) (ls hs : List Entry) → T (covers_first n ls hs) → (v : ℕ) → v < n → T (covers_entry (get_or ls v no_entry) (get_or hs v no_entry))
 unfolding covers_first
@@ -117,12 +133,19 @@ covers_at (suc n) ls hs h v k = go (ltb v n) refl (λ x. covers_at n ls hs (and_
 fits_kind : (ρ : Rows) (s : Store) (k l : Kind) (e : Entry) (g : Given) → T (same_kind k l) → Fits ρ s k e g → Fits ρ s l e g
 fits_kind ρ s Cint Cint e g h p = p
 fits_kind ρ s (Value q) (Value r) e g h p = subst (λ (z : ℕ). Fits ρ s (Value z) e g) (eqb→eq q r h) p
+fits_kind ρ s Cint (Value r) e g h p = elim h [ ]
+fits_kind ρ s (Value q) Cint e g h p = elim h [ ]
 
 -- a value at offset 0 fits the loosest usual entry; so does every int
 fits_loosest : (ρ : Rows) (s : Store) (k : Kind) (e : Entry) (g : Given) → T (is_zero e.offset) → Fits ρ s k e g → Fits ρ s k loosest g
 fits_loosest ρ s Cint e (Has (Int n)) h p = tt
 fits_loosest ρ s (Value r) e (Has (Imm n)) h p = record { loose = tt; still = refl; named = tt; suited = p.suited }
 fits_loosest ρ s (Value r) e (Has (Place b o)) h p = record { loose = tt; there = p.there; row = p.row; offset = zero_offset e.offset (num (pos o)) h p.offset; tag = tt; inside = p.inside }
+fits_loosest ρ s Cint e Stuck h p = elim p [ ]
+fits_loosest ρ s Cint e (Has (Imm n)) h p = elim p [ ]
+fits_loosest ρ s Cint e (Has (Place b o)) h p = elim p [ ]
+fits_loosest ρ s (Value r) e Stuck h p = elim p [ ]
+fits_loosest ρ s (Value r) e (Has (Int n)) h p = elim p [ ]
 
 -- ---- lines
 
@@ -203,9 +226,13 @@ Obeys P x δ s a = Promises x.answer P x δ s a
 
 not_imm_lem : (b : Boxed) → T (is_box b) → MaySit b → ⊥
 not_imm_lem B.Block h p = p
+not_imm_lem B.Either h p = elim h [ ]
+not_imm_lem B.Imm h p = elim h [ ]
 
 not_place : (b : Boxed) → T (is_imm b) → MayPoint b → ⊥
 not_place B.Imm h p = p
+not_place B.Either h p = elim h [ ]
+not_place B.Block h p = elim h [ ]
 
 module _ (P : Prog) (Z : Sized P) (Γ : Env) (s : Store) (δ : List Given) (W : Sound P.rows s) (F : FitsAll P.rows s P.vars Γ δ) where
   abbrev good_here : Good P Γ δ s
@@ -222,6 +249,7 @@ module _ (P : Prog) (Z : Sized P) (Γ : Env) (s : Store) (δ : List Given) (W : 
       go : (c : Bool) → same_kind k (kind_at P.vars v) ≡ c → Obeys P (need (refuse 6 Γ) c (goes true (with_entry Γ v e))) δ s (need D.Stuck (ltb v (length δ)) (D.SetVar v d))
       go false q = tt
       go true q = rw (F.size, lt-ltb v (length P.vars) h) (tt, set_good P Z Γ s δ W F v e (Has d) h (fits_kind P.rows s k (kind_at P.vars v) e (Has d) (rw q tt) p))
+  set_rule v t (Ok k e) Stuck p = elim p [ ]
 
   if_rule : (l : ℕ) → T (label_there P l) → (x : Judged) (g : Given) → Meets P.rows s x g → Obeys P (rule_if P.labels l x Γ) δ s (act_if P l g)
   unfolding rule_if act_if
@@ -232,6 +260,9 @@ module _ (P : Prog) (Z : Sized P) (Γ : Env) (s : Store) (δ : List Given) (W : 
       go : (c : Bool) → Obeys P (jump P.labels l Γ Γ (goes true Γ)) δ s (jump_on P l c)
       go true = jumps P Z l t Γ Γ Γ true δ s good_here
       go false = stays P l t Γ Γ Γ true δ s (tt, good_here)
+  if_rule l t (Ok Cint e) Stuck p = elim p [ ]
+  if_rule l t (Ok Cint e) (Has (Imm _)) p = elim p [ ]
+  if_rule l t (Ok Cint e) (Has (Place _ _)) p = elim p [ ]
 
   return_rule : (x : Judged) (g : Given) → Meets P.rows s x g → Obeys P (rule_return P.ret x Γ) δ s (act_return g)
   unfolding rule_return
@@ -242,6 +273,7 @@ module _ (P : Prog) (Z : Sized P) (Γ : Env) (s : Store) (δ : List Given) (W : 
       go false b h q = tt
       go true false h q = tt
       go true true h q = fits_loosest P.rows s P.ret e (Has d) (rw q tt) (fits_kind P.rows s k P.ret e (Has d) (rw h tt) p)
+  return_rule (Ok k e) Stuck p = elim p [ ]
 
   -- the variable that a test names
   var_rule : (v : ℕ) → T (var_there P.vars v) → (R : Judged → Line) (A : Given → Act) → Obeys P (R (Ok (kind_at P.vars v) (get_or Γ.entries v no_entry))) δ s (A (get_or δ v Stuck)) → Obeys P (R (ty_var P.vars Γ v)) δ s (A (ev_var δ v))
@@ -261,6 +293,8 @@ module _ (P : Prog) (Z : Sized P) (Γ : Env) (s : Store) (δ : List Given) (W : 
       go : (c : Bool) → Obeys P (need (refuse 10 Γ) c (jump P.labels l (with_entry Γ v (with_boxed e B.Imm)) Γ (goes true (with_entry Γ v (with_boxed e B.Block))))) δ s (jump_on P l false)
       go false = tt
       go true = stays P l t (with_entry Γ v (with_boxed e B.Imm)) Γ (with_entry Γ v (with_boxed e B.Block)) true δ s (tt, refine_good P Z Γ s δ W F v (Value r) (Has (Place b o)) (with_boxed e B.Block) u w h (record { loose = tt; there = p.there; row = p.row; offset = p.offset; tag = p.tag; inside = p.inside }))
+  ifimm_rule l v t h (Value r) e Stuck u w p = elim p [ ]
+  ifimm_rule l v t h (Value r) e (Has (Int _)) u w p = elim p [ ]
 
   iftag_rule : (l v : ℕ) (n : Num) → T (label_there P l) → v < length P.vars → (k : Kind) (e : Entry) (g : Given) → kind_at P.vars v ≡ k → get_or δ v Stuck ≡ g → Fits P.rows s k e g → Obeys P (rule_iftag P.rows P.labels l v n (Ok k e) Γ) δ s (act_iftag P s l n g)
   unfolding rule_iftag act_iftag
@@ -281,6 +315,8 @@ module _ (P : Prog) (Z : Sized P) (Γ : Env) (s : Store) (δ : List Given) (W : 
           let p' : FitsPlace s r e b 0 = rw (← z) at p in
           let w' : get_or δ v Stuck ≡ Has (Place b 0) = rw (← z) at w in
           rw (← z, lt-ltb b (length s) p.there) (leap b p' w' (eq_z (pos (tag_in s b)) n.n) refl)
+      go true true true a c Stuck w p = elim p [ ]
+      go true true true a c (Has (Int _)) w p = elim p [ ]
 
   ifint_rule : (l v : ℕ) (n : Num) → T (label_there P l) → v < length P.vars → (k : Kind) (e : Entry) (g : Given) → kind_at P.vars v ≡ k → get_or δ v Stuck ≡ g → Fits P.rows s k e g → Obeys P (rule_ifint P.rows P.labels l v n (Ok k e) Γ) δ s (act_ifint P l n g)
   unfolding rule_ifint act_ifint
@@ -297,6 +333,8 @@ module _ (P : Prog) (Z : Sized P) (Γ : Env) (s : Store) (δ : List Given) (W : 
       go true true false c g w p = tt
       go true true true c (Has (Imm m)) w p = leap m p w (same_num m n) refl
       go true true true c (Has (Place b o)) w p = absurd (not_place e.boxed (rw c tt) p.loose)
+      go true true true c Stuck w p = elim p [ ]
+      go true true true c (Has (Int _)) w p = elim p [ ]
 
   -- put
   put_good : (b o : ℕ) (d : Datum) → b < length s → o < cells_in s b → Fits P.rows s (Value (field_of P.rows (row_in s b) (tag_in s b) o)) loosest (Has d) → Good P Γ δ (set_cell s b o d)
@@ -314,11 +352,14 @@ module _ (P : Prog) (Z : Sized P) (Γ : Env) (s : Store) (δ : List Given) (W : 
       store : (d : Datum) → Fits P.rows s (Value (field_of P.rows r t o')) loosest (Has d) → After P (goes true Γ) δ s (store_at b o' (Has d))
       store (Imm n) p = (tt, put_good b o' (Imm n) h.there h.inside (rw (h.row, h.tag) p))
       store (Place c i) p = (tt, put_good b o' (Place c i) h.there h.inside (rw (h.row, h.tag) p))
+      store (Int _) p = elim p [ ]
 
       go : (x y : Bool) → same_kind l (Value (field_of P.rows r t o')) ≡ x → is_zero e.offset ≡ y → Obeys P (need (refuse 6 Γ) x (need (refuse 10 Γ) y (goes true Γ))) δ s (act_put s m (Has (Place b o)) (Has d))
       go false y u v = tt
       go true false u v = tt
       go true true u v = rw (h.moves, is_inside s b o' h.there h.inside) (store d (fits_loosest P.rows s (Value (field_of P.rows r t o')) e (Has d) (rw v tt) (fits_kind P.rows s l (Value (field_of P.rows r t o')) e (Has d) (rw u tt) p)))
+  put_aim m r l e (Int _) d p (A.At t o') h = elim h [ ]
+  put_aim m r l e (Imm _) d p (A.At t o') h = elim h [ ]
 
   put_rule : (m : Num) (x y : Judged) (g k : Given) → Meets P.rows s x g → Meets P.rows s y k → Obeys P (rule_put P.rows m x y Γ) δ s (act_put s m g k)
   unfolding rule_put
@@ -326,6 +367,8 @@ module _ (P : Prog) (Z : Sized P) (Γ : Env) (s : Store) (δ : List Given) (W : 
   put_rule m (Ok l e) (No n) g k p q = refused n P Γ δ s (act_put s m g k) q
   put_rule m (Ok Cint e) (Ok l d) g k p q = tt
   put_rule m (Ok (Value r) e) (Ok l c) (Has a) (Has d) p q = put_aim m r l c a d q (address_of P.rows r e (G.Known m)) (address P.rows s W r e a p (G.Known m) m refl)
+  put_rule m (Ok (Value r) e) (Ok l c) Stuck k p q = elim p [ ]
+  put_rule m (Ok (Value r) e) (Ok l c) (Has a) Stuck p q = elim q [ ]
 
   -- a line that is reached and whose names exist
   pub line_sound : (st : Stmt) → T (stmt_there P st) → Obeys P (line_of P true Γ st) δ s (act P s δ st)
@@ -352,3 +395,4 @@ module _ (P : Prog) (Z : Sized P) (Γ : Env) (s : Store) (δ : List Given) (W : 
       go : (c : Bool) → covers P.labels l Γ ≡ c → Obeys P (need (refuse 11 Γ) c (goes true (label_env P l))) δ s D.Fall
       go false q = tt
       go true q = (tt, covers_good P Z l (ltb-true l (length P.labels) (there_in P l t)) Γ δ s (rw q tt) good_here)
+  line_sound bad_s t = elim t [ ]
