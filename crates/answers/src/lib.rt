@@ -1,10 +1,13 @@
 // An answer as a case, and the number and the line of a case.
+#![tactic(auto)]
+
 ghost use Rattle.std.specs.Prelude.{◌≡◌, get_or};
 ghost use Rattle.rules.specs.Answers.{answer_of, glue_cases, store_cases, case_of};
 
 use rules::{Answer, Verdict};
 
 // The case of a number and a line. A number that stands in neither table would be a refusal; the rules give none.
+#[tactic(auto, unfolding(rules::specs::Answers::case_of))]
 pub fn case_of(a: Answer) -> Verdict
     ensures { result ≡ case_of a }
 {

@@ -1,4 +1,6 @@
 // Signed 32-bit numbers. Only here is a `Num` opened, compared with another or added to it.
+#![tactic(auto)]
+
 ghost use Rattle.std.specs.Prelude.{◌≡◌, ◌+◌, pos, negsuc, ◌+ℤ◌};
 ghost use Rattle.rules.specs.Numbers.{zero_n, num_code, word_of, low32, wrap32, one_if, same_num, arith_of, suits};
 ghost use Rattle.number.specs.Places.{sign_of, index_in};
@@ -14,6 +16,7 @@ pub enum Sign {
     Minus(u32),
 }
 
+#[tactic(auto, unfolding(crate::specs::Places::sign_of))]
 pub fn sign_of(a: Num) -> Sign
     ensures { result ≡ sign_of a.n }
 {
@@ -26,6 +29,7 @@ pub fn sign_of(a: Num) -> Sign
 }
 
 // The 32 bits of a number.
+#[tactic(auto, unfolding(rules::specs::Numbers::word_of))]
 pub fn word(a: Num) -> u32
     ensures { result ≡ word_of a }
 {
@@ -57,6 +61,7 @@ pub fn number_of(c: u64) -> Num
 // ---- arithmetic
 
 // The low 32 bits of s.
+#[tactic(auto, unfolding(rules::specs::Numbers::low32))]
 fn low(s: i64) -> u64
     ensures { result ≡ low32 s }
 {
@@ -67,6 +72,7 @@ fn low(s: i64) -> u64
     }
 }
 
+#[tactic(auto, unfolding(rules::specs::Numbers::wrap32))]
 fn wrap(s: i64) -> Num
     ensures { result ≡ wrap32 s }
 {
@@ -94,6 +100,7 @@ pub fn is_zero(a: Num) -> bool
 }
 
 // Sums, differences and products wrap; `eq` and `lt` give 1 or 0.
+#[tactic(auto, unfolding(rules::specs::Numbers::arith_of))]
 pub fn arith(o: Op, a: Num, b: Num) -> Num
     ensures { result ≡ arith_of o a b }
 {

@@ -1,5 +1,7 @@
 // Tables of numbers, whatever they hold: one number read or written, and a count. Past a table is 0, and a place past it writes nothing.
 // The two widths name the place apart, `i` and `k`, so that a must-fail edit can name a line of either.
+#![tactic(auto)]
+
 ghost use Rattle.std.specs.Prelude.{◌≡◌, min, get_or, set};
 ghost use Rattle.rules.specs.View.{up_to};
 
@@ -39,6 +41,7 @@ pub fn least(a: usize, b: usize) -> usize
 }
 
 // A count over its limit is none.
+#[tactic(auto, unfolding(rules::specs::View::up_to))]
 pub fn up_to(most: usize, n: u32) -> usize
     ensures { result ≡ up_to most n }
 {

@@ -1,4 +1,6 @@
 // The bytes, numbers and words of a text. Each function takes the whole text and a place in it, and answers at every place.
+#![tactic(auto)]
+
 ghost use Rattle.std.specs.Prelude.{◌≡◌, ℕ, ◌+◌, ◌≤◌, ◌<◌, max, ◌&&◌, not, eqb, drop};
 ghost use Rattle.rules.specs.Text.Words as words;
 
@@ -212,6 +214,7 @@ fn operator_at(s: &[u8], at: usize) -> Reading
 }
 
 // How many expressions follow an operation.
+#[tactic(auto, unfolding(rules::specs::Text::Words::arity))]
 pub fn arity(op: u32) -> usize
     ensures { result ≡ words.arity op }
 {
