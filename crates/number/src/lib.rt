@@ -29,7 +29,7 @@ pub fn sign_of(a: Num) -> Sign
 }
 
 // The 32 bits of a number.
-#[tactic(auto, unfolding(rules::specs::Numbers::word_of))]
+#[tactic(auto, using(crate::proofs::Laws::minus_is, crate::proofs::Laws::plus_is), unfolding(rules::specs::Numbers::word_of))]
 pub fn word(a: Num) -> u32
     ensures { result ≡ word_of a }
 {
@@ -40,6 +40,7 @@ pub fn word(a: Num) -> u32
 }
 
 // The number whose 32 bits are w.
+#[tactic(auto, using(crate::proofs::Laws::by_low))]
 pub fn number(w: u32) -> Num
     ensures { result ≡ num_code w }
 {
@@ -52,6 +53,7 @@ pub fn number(w: u32) -> Num
 }
 
 // The number whose 32 bits are the low ones of c.
+#[tactic(auto, using(crate::proofs::Laws::low_again))]
 pub fn number_of(c: u64) -> Num
     ensures { result ≡ num_code c }
 {
@@ -125,6 +127,7 @@ pub enum Index {
 }
 
 // o + k among n, also where o + k is more than a usize holds.
+#[tactic(auto, using(crate::proofs::Laws::inside, crate::proofs::Laws::outside))]
 fn ahead(o: usize, k: usize, n: usize) -> Index
     ensures { result ≡ index_in (pos (o + k)) n }
 {
@@ -140,6 +143,7 @@ fn ahead(o: usize, k: usize, n: usize) -> Index
 }
 
 // o - 1 - k among n.
+#[tactic(auto, using(crate::proofs::Laws::none_below, crate::proofs::Laws::less, crate::proofs::Laws::less_none))]
 fn back(o: usize, k: usize, n: usize) -> Index
     ensures { result ≡ index_in (pos o +ℤ negsuc k) n }
 {
@@ -151,6 +155,7 @@ fn back(o: usize, k: usize, n: usize) -> Index
 }
 
 // o + m among n, over whole numbers.
+#[tactic(auto, using(crate::proofs::Laws::minus_is, crate::proofs::Laws::plus_is))]
 pub fn place_in(o: usize, m: Num, n: usize) -> Index
     ensures { result ≡ index_in (pos o +ℤ m.n) n }
 {
@@ -168,6 +173,7 @@ pub fn index_in(k: Num, n: usize) -> Index
 }
 
 // o + m among n, over whole numbers.
+#[tactic(auto, using(crate::proofs::Laws::none_below, crate::proofs::Laws::minus_is, crate::proofs::Laws::plus_is))]
 pub fn sum_in(o: Num, m: Num, n: usize) -> Index
     ensures { result ≡ index_in (o.n +ℤ m.n) n }
 {
@@ -181,6 +187,7 @@ pub fn sum_in(o: Num, m: Num, n: usize) -> Index
 }
 
 // Whether n is from 0 to one less than p, or p is `inf`.
+#[tactic(auto, using(crate::specs::Places::index_at, crate::specs::Places::index_out))]
 pub fn suits(p: Psi, n: Num) -> bool
     ensures { result ≡ suits p n }
 {

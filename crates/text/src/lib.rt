@@ -45,6 +45,7 @@ pub fn next_of(r: Reading) -> usize
 // ---- numbers
 
 // After a leading zero no digit may stand.
+#[tactic(auto, using(crate::proofs::Ways::zero_digit, crate::proofs::Ways::zero_high, crate::proofs::Ways::zero_low))]
 fn after_zero(s: &[u8], at: usize) -> Reading
     ensures { (most : ℕ) → result ≡ words.more_digits (drop at s.now) at 0 most }
 {
@@ -59,6 +60,7 @@ fn after_zero(s: &[u8], at: usize) -> Reading
 }
 
 // The digits after the number `first`, which is not 0 and may grow to `most`.
+#[tactic(auto, using(crate::proofs::Ways::at_end, crate::proofs::Ways::at_low, crate::proofs::Ways::at_high, crate::proofs::Ways::at_over, crate::proofs::Ways::at_more))]
 fn more_digits(s: &[u8], from: usize, first: u64, most: u64) -> Reading
     requires { (most ≤ 2147483648) × ((1 ≤ first) × (first ≤ most)) }
     ensures { result ≡ words.more_digits (drop from s.now) from first most }
@@ -84,6 +86,7 @@ fn more_digits(s: &[u8], from: usize, first: u64, most: u64) -> Reading
 }
 
 // Digits whose first is from `low` to `9`.
+#[tactic(auto, using(crate::proofs::Laws::inside, crate::proofs::Ways::digit, crate::proofs::Ways::digit_zero, crate::proofs::Ways::too_high, crate::proofs::Ways::too_low))]
 fn magnitude_at(s: &[u8], at: usize, low: u64, most: u64) -> Reading
     requires { (48 ≤ low) × ((9 ≤ most) × (most ≤ 2147483648)) }
     ensures { result ≡ words.magnitude_at s.now at low most }
@@ -102,6 +105,7 @@ fn magnitude_at(s: &[u8], at: usize, low: u64, most: u64) -> Reading
 }
 
 // A number without a minus.
+#[tactic(auto, unfolding(rules::specs::Text::Words::plain_at))]
 pub fn plain_at(s: &[u8], at: usize) -> Reading
     ensures { result ≡ words.plain_at s.now at }
 {
@@ -109,6 +113,7 @@ pub fn plain_at(s: &[u8], at: usize) -> Reading
 }
 
 // A number as its 32 bits, or the first byte at which the text can no longer become one.
+#[tactic(auto, using(crate::proofs::Laws::inside, crate::proofs::Laws::magnitude_most, crate::proofs::Ways::after_minus, crate::proofs::Ways::no_minus))]
 pub fn number_at(s: &[u8], at: usize) -> Reading
     ensures { result ≡ words.number_at s.now at }
 {
@@ -125,6 +130,7 @@ pub fn number_at(s: &[u8], at: usize) -> Reading
 // ---- fixed words
 
 // How many bytes of the word w stand at `at`.
+#[tactic(auto, using(crate::proofs::Ways::word_ends, crate::proofs::Ways::text_ends, crate::proofs::Ways::differs, crate::proofs::Ways::goes_on))]
 fn agree(s: &[u8], at: usize, w: &[u8]) -> usize
     ensures { result ≡ words.agreed w.now (drop at s.now) }
 {
@@ -152,6 +158,7 @@ fn larger(a: usize, b: usize) -> usize
 }
 
 // The word found before; else k if the word w stands at `at`; else the farther of the two wrong bytes.
+#[tactic(auto, using(crate::proofs::Laws::agreed_in, crate::proofs::Ways::or_hit, crate::proofs::Ways::or_miss), unfolding(rules::specs::Text::Words::or_word))]
 pub fn or_word(s: &[u8], at: usize, w: &[u8], k: u64, found: Reading) -> Reading
     ensures { result ≡ words.or_word s.now at w.now k found }
 {
@@ -169,6 +176,7 @@ pub fn or_word(s: &[u8], at: usize, w: &[u8], k: u64, found: Reading) -> Reading
 }
 
 // The place after the byte b, if it stands at `at`. No byte is 256, so b stands inside the text and the next place fits.
+#[tactic(auto, using(crate::proofs::Laws::inside, crate::proofs::Ways::byte_not, crate::proofs::Ways::byte_there))]
 pub fn byte_is(s: &[u8], at: usize, b: u8) -> Next
     ensures { result ≡ words.byte_is s.now at b }
 {
@@ -180,6 +188,7 @@ pub fn byte_is(s: &[u8], at: usize, b: u8) -> Next
 }
 
 // A variable: `v` and its number.
+#[tactic(auto, using(crate::proofs::Laws::inside, crate::proofs::Ways::var_not, crate::proofs::Ways::var_there_lem))]
 pub fn var_at(s: &[u8], at: usize) -> Reading
     ensures { result ≡ words.var_at s.now at }
 {
@@ -193,6 +202,7 @@ pub fn var_at(s: &[u8], at: usize) -> Reading
 // ---- what an expression begins with
 
 // An operator, by its number. The words that begin with another byte than the one at `at` cannot stand there, nor can their wrong byte lie farther.
+#[tactic(auto, using(crate::proofs::Chain::operator_by, crate::proofs::Chain::operator_none))]
 fn operator_at(s: &[u8], at: usize) -> Reading
     ensures { result ≡ words.operator_at s.now at }
 {
@@ -236,6 +246,7 @@ fn head_of(op: u32, r: Reading) -> Head
 }
 
 // An operator, and R after `val`.
+#[tactic(auto, using(crate::proofs::Laws::got, crate::proofs::Laws::inside, crate::proofs::Laws::operator_reads, crate::proofs::Laws::plain_reads, crate::proofs::Laws::value_most, crate::proofs::Ways::no_val, crate::proofs::Ways::val_row, crate::proofs::Ways::val_short))]
 fn operator_head(s: &[u8], at: usize) -> Head
     ensures { result ≡ words.operator_head s.now (words.operator_at s.now at) }
 {
@@ -265,6 +276,7 @@ fn begins_variable(s: &[u8], at: usize) -> bool
 }
 
 // The first word of an expression. An operator is read at one place only: so it is compiled in place, and no head is copied.
+#[tactic(auto, using(crate::proofs::Laws::number_reads, crate::proofs::Laws::value_most, crate::proofs::Laws::var_reads, crate::proofs::Ways::head_number, crate::proofs::Ways::head_operator, crate::proofs::Ways::head_variable))]
 pub fn head_at(s: &[u8], at: usize) -> Head
     ensures { result ≡ words.head_at s.now at }
 {
