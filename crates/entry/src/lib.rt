@@ -1,4 +1,6 @@
 // Entries, environments and data by value: when one covers another, what stands where, and their numbers in tables.
+#![tactic(auto)]
+
 ghost use Rattle.std.specs.Prelude.{◌≡◌, get_or};
 ghost use Rattle.rules.specs.When.{need};
 ghost use Rattle.rules.specs.Program.{entry, no_entry, zero_i, is_zero};
@@ -12,6 +14,7 @@ use rules::{Boxed, Datum, Entry, Env, Given, Num, Offset, Tag};
 
 // ---- covering: each part equal to the label's, or the label's is `any`
 
+#[tactic(auto, unfolding(rules::specs::Environments::covers_boxed))]
 fn covers_boxed(label: Boxed, here: Boxed) -> bool
     ensures { result ≡ covers_boxed label here }
 {
@@ -30,6 +33,7 @@ fn covers_boxed(label: Boxed, here: Boxed) -> bool
     }
 }
 
+#[tactic(auto, unfolding(rules::specs::Environments::covers_offset))]
 fn covers_offset(label: Offset, here: Offset) -> bool
     ensures { result ≡ covers_offset label here }
 {
@@ -42,6 +46,7 @@ fn covers_offset(label: Offset, here: Offset) -> bool
     }
 }
 
+#[tactic(auto, unfolding(rules::specs::Environments::covers_tag))]
 fn covers_tag(label: Tag, here: Tag) -> bool
     ensures { result ≡ covers_tag label here }
 {
@@ -54,6 +59,7 @@ fn covers_tag(label: Tag, here: Tag) -> bool
     }
 }
 
+#[tactic(auto, unfolding(rules::specs::Environments::covers_entry))]
 pub fn covers_entry(label: Entry, here: Entry) -> bool
     ensures { result ≡ covers_entry label here }
 {
@@ -90,6 +96,7 @@ pub fn entry_at(env: Env, v: usize) -> Entry
     }
 }
 
+#[tactic(auto, unfolding(rules::specs::Environments::with_entry))]
 pub fn with_entry(env: Env, v: usize, e: Entry) -> Env
     ensures { result ≡ with_entry env v e }
 {
@@ -162,6 +169,7 @@ pub fn zero_offset(i: Offset) -> bool
 
 // ---- entries as numbers of a table
 
+#[tactic(auto, unfolding(rules::specs::View::boxed_code))]
 fn boxed_from(c: u64) -> Boxed
     ensures { result ≡ boxed_code c }
 {
@@ -174,6 +182,7 @@ fn boxed_from(c: u64) -> Boxed
     }
 }
 
+#[tactic(auto, unfolding(rules::specs::View::offset_code))]
 fn offset_from(c: u64) -> Offset
     ensures { result ≡ offset_code c }
 {
@@ -184,6 +193,7 @@ fn offset_from(c: u64) -> Offset
     }
 }
 
+#[tactic(auto, unfolding(rules::specs::View::tag_code))]
 fn tag_from(c: u64) -> Tag
     ensures { result ≡ tag_code c }
 {
@@ -242,6 +252,7 @@ fn tag_to(t: Tag) -> u64
     }
 }
 
+#[tactic(auto, unfolding(crate::specs::Codes::codes_of))]
 pub fn codes_of(e: Entry) -> Codes
     ensures { result ≡ codes_of e }
 {
@@ -260,6 +271,7 @@ pub fn codes_of(e: Entry) -> Codes
 
 // ---- data as one number of a table: its high half 0 nothing, 1 C int, 2 immediate, k + 3 a place in block k
 
+#[tactic(auto, unfolding(rules::specs::Machine::Tables::datum_code))]
 pub fn datum_of(c: u64) -> Given
     ensures { result ≡ datum_code c }
 {
@@ -276,6 +288,7 @@ pub fn datum_of(c: u64) -> Given
     }
 }
 
+#[tactic(auto, unfolding(crate::specs::Codes::writable, rules::specs::Machine::Tables::code_of))]
 fn place_code(b: usize, o: usize) -> u64
     ensures { result ≡ need 0 (writable (Datum.Place b o)) (code_of (Datum.Place b o)) }
 {
@@ -291,6 +304,7 @@ fn place_code(b: usize, o: usize) -> u64
 }
 
 // 0 for a place that no number of a table holds.
+#[tactic(auto, unfolding(crate::specs::Codes::writable, rules::specs::Machine::Tables::code_of))]
 pub fn code_of(d: Datum) -> u64
     ensures { result ≡ need 0 (writable d) (code_of d) }
 {

@@ -1,4 +1,6 @@
 // What the programs print, written into a lent table of bytes: the text from its start on, and 0 after it.
+#![tactic(auto)]
+
 ghost use Rattle.std.specs.Prelude.{◌≡◌, [], ◌∷◌, ◌+◌, ◌≤◌, length};
 ghost use Rattle.rules.specs.Run.{digits_of, decimal, signed, value_text, state_text, answer_text, result_text};
 ghost use Rattle.prints.specs.Written.{printed, Puts};
@@ -10,6 +12,7 @@ use rules::{Answer, Datum, Given, Num, State};
 
 // Each private function puts its text at `at` and returns the place after it. Its caller has shown that the text fits.
 
+#[tactic(auto, using(crate::proofs::Laws::one))]
 fn put_byte(out: &mut [u8; 128], at: usize, b: u8) -> usize
     requires { at + 1 ≤ 128 }
     ensures { Puts out.old at (b ∷ []) out.new result }
@@ -18,6 +21,7 @@ fn put_byte(out: &mut [u8; 128], at: usize, b: u8) -> usize
     at + 1
 }
 
+#[tactic(auto, using(crate::proofs::Laws::put_one, crate::proofs::Laws::put_none))]
 fn put_word(out: &mut [u8; 128], at: usize, w: &[u8]) -> usize
     requires { at + length w.now ≤ 128 }
     ensures { Puts out.old at w.now out.new result }

@@ -1,4 +1,6 @@
 // The shape of each line of a glue text, however much it holds. Nothing is written. Each function takes the whole text and a place in it, and answers at every place.
+#![tactic(auto)]
+
 ghost use Rattle.std.specs.Prelude.{◌≡◌, ◌||◌, ◌≤◌, max, eqb, length};
 ghost use Rattle.rules.specs.Text.Words as words;
 ghost use Rattle.rules.specs.Text.Shape as shapes;
@@ -31,6 +33,7 @@ fn mark_on(s: &[u8], x: Next, b: u8) -> Next
 // ---- expressions
 
 // One turn a word; `need` counts the expressions that are still to come.
+#[tactic(auto, using(crate::proofs::Ways::arity_most, crate::proofs::Ways::no_words, crate::proofs::Ways::word_bad, crate::proofs::Ways::word_ends, crate::proofs::Ways::word_not, crate::proofs::Ways::word_on, text::proofs::Laws::head_read, text::proofs::Laws::inside), unfolding(rules::specs::Text::Shape::expr_shape))]
 fn expr_shape(s: &[u8], at: usize) -> Next
     ensures { result ≡ shapes.expr_shape s.now at }
 {
@@ -92,6 +95,7 @@ fn var_on(s: &[u8], x: Next) -> Next
 // ---- the forms of the lines, after their key
 
 // `int` is 0, `value ` 1.
+#[tactic(auto, unfolding(rules::specs::Text::Shape::kind_word))]
 pub fn kind_word(s: &[u8], at: usize) -> Reading
     ensures { result ≡ shapes.kind_word s.now at }
 {
@@ -99,6 +103,7 @@ pub fn kind_word(s: &[u8], at: usize) -> Reading
     or_word(s, at, b"value ", 1, r)
 }
 
+#[tactic(auto, unfolding(rules::specs::Text::Shape::kind_shape))]
 fn kind_shape(s: &[u8], at: usize) -> Next
     ensures { result ≡ shapes.kind_shape s.now at }
 {
@@ -114,6 +119,7 @@ fn kind_shape(s: &[u8], at: usize) -> Next
     }
 }
 
+#[tactic(auto, using(crate::proofs::Ways::next_mark), unfolding(rules::specs::Text::Shape::local_shape))]
 fn local_shape(s: &[u8], at: usize) -> Next
     ensures { result ≡ shapes.local_shape s.now at }
 {
@@ -141,6 +147,7 @@ fn or_number(found: Reading, number: Reading, more: u64) -> Reading
 }
 
 // `inf` is 1, a number n is n + 2.
+#[tactic(auto, using(text::proofs::Laws::plain_reads, text::proofs::Laws::value_most), unfolding(rules::specs::Text::Shape::psi_at, rules::specs::Text::Shape::inf_word))]
 pub fn psi_at(s: &[u8], at: usize) -> Reading
     ensures { result ≡ shapes.psi_at s.now at }
 {
@@ -156,6 +163,7 @@ pub fn between(b: u64) -> bool
 }
 
 // One turn a field row.
+#[tactic(auto, using(crate::proofs::Ways::between_byte, crate::proofs::Ways::field_ends, crate::proofs::Ways::field_not, crate::proofs::Ways::field_on, crate::proofs::Ways::no_fields, text::proofs::Laws::inside))]
 fn fields_shape(s: &[u8], at: usize) -> Next
     ensures { result ≡ shapes.fields_shape s.now (length s.now) at }
 {
@@ -179,6 +187,7 @@ fn fields_shape(s: &[u8], at: usize) -> Next
     Next::Bad(i)
 }
 
+#[tactic(auto, unfolding(rules::specs::Text::Shape::products_shape))]
 fn products_shape(s: &[u8], at: usize) -> Next
     ensures { result ≡ shapes.products_shape s.now at }
 {
@@ -199,6 +208,7 @@ fn products_on(s: &[u8], x: Next) -> Next
     }
 }
 
+#[tactic(auto, using(crate::proofs::Ways::read_mark), unfolding(rules::specs::Text::Shape::type_shape))]
 fn type_shape(s: &[u8], at: usize) -> Next
     ensures { result ≡ shapes.type_shape s.now at }
 {
@@ -206,6 +216,7 @@ fn type_shape(s: &[u8], at: usize) -> Next
 }
 
 // `any` is 0, `box` 1, `imm` 2.
+#[tactic(auto, unfolding(rules::specs::Text::Shape::boxed_at))]
 pub fn boxed_at(s: &[u8], at: usize) -> Reading
     ensures { result ≡ shapes.boxed_at s.now at }
 {
@@ -215,6 +226,7 @@ pub fn boxed_at(s: &[u8], at: usize) -> Reading
 }
 
 // `any` is 0, a number n is n + 1.
+#[tactic(auto, using(text::proofs::Laws::plain_reads, text::proofs::Laws::value_most), unfolding(rules::specs::Text::Shape::offset_at, rules::specs::Text::Shape::any_word))]
 pub fn offset_at(s: &[u8], at: usize) -> Reading
     ensures { result ≡ shapes.offset_at s.now at }
 {
@@ -223,6 +235,7 @@ pub fn offset_at(s: &[u8], at: usize) -> Reading
 }
 
 // `any` is 0, a number whose 32 bits are w is w + 1.
+#[tactic(auto, using(text::proofs::Laws::number_reads, text::proofs::Laws::value_most), unfolding(rules::specs::Text::Shape::tag_at, rules::specs::Text::Shape::any_word))]
 pub fn tag_at(s: &[u8], at: usize) -> Reading
     ensures { result ≡ shapes.tag_at s.now at }
 {
@@ -250,6 +263,7 @@ fn tag_on(s: &[u8], x: Next) -> Next
     }
 }
 
+#[tactic(auto, using(crate::proofs::Ways::read_marks), unfolding(rules::specs::Text::Shape::entry_shape))]
 fn entry_shape(s: &[u8], at: usize) -> Next
     ensures { result ≡ shapes.entry_shape s.now at }
 {
@@ -258,6 +272,7 @@ fn entry_shape(s: &[u8], at: usize) -> Next
 }
 
 // One turn an entry.
+#[tactic(auto, using(crate::proofs::Ways::entry_bad, crate::proofs::Ways::entry_last, crate::proofs::Ways::entry_not, crate::proofs::Ways::entry_on, crate::proofs::Ways::no_entries, text::proofs::Laws::inside))]
 fn label_shape(s: &[u8], vars: usize, at: usize) -> Next
     ensures { result ≡ shapes.label_shape s.now vars at }
 {
@@ -292,6 +307,7 @@ fn then_expr(s: &[u8], r: Reading) -> Next
 }
 
 // `put=E N E`
+#[tactic(auto, using(crate::proofs::Ways::next_marks), unfolding(rules::specs::Text::Shape::line_shape))]
 fn put_shape(s: &[u8], at: usize) -> Next
     ensures { result ≡ shapes.line_shape s.now 0 shapes.put_k at }
 {
@@ -300,6 +316,7 @@ fn put_shape(s: &[u8], at: usize) -> Next
 }
 
 // `ifimm=L V`
+#[tactic(auto, using(crate::proofs::Ways::read_mark), unfolding(rules::specs::Text::Shape::line_shape))]
 fn ifimm_shape(s: &[u8], at: usize) -> Next
     ensures { result ≡ shapes.line_shape s.now 0 shapes.ifimm_k at }
 {
@@ -307,6 +324,7 @@ fn ifimm_shape(s: &[u8], at: usize) -> Next
 }
 
 // `iftag=L V N`, and `ifint=L V N`
+#[tactic(auto, using(crate::proofs::Ways::read_mark, crate::proofs::Ways::read_marks), unfolding(rules::specs::Text::Shape::line_shape))]
 fn iftag_shape(s: &[u8], at: usize) -> Next
     ensures { result ≡ shapes.line_shape s.now 0 shapes.iftag_k at }
 {
@@ -316,6 +334,7 @@ fn iftag_shape(s: &[u8], at: usize) -> Next
 // ---- a line by its key
 
 // The key's number, from 1 to 13. Only the keys that begin with the byte at `at` are tried.
+#[tactic(auto, using(crate::proofs::Ways::key_by, crate::proofs::Ways::key_none))]
 pub fn key_at(s: &[u8], at: usize) -> Reading
     ensures { result ≡ shapes.key_at s.now at }
 {
@@ -347,6 +366,7 @@ pub fn key_at(s: &[u8], at: usize) -> Reading
 }
 
 // Rows are part 1, variables 2, the body 3.
+#[tactic(auto, unfolding(rules::specs::Text::Shape::part_of))]
 pub fn part_of(k: u64) -> u32
     ensures { result ≡ shapes.part_of k }
 {
@@ -357,6 +377,7 @@ pub fn part_of(k: u64) -> u32
 }
 
 // Whether a line with the key k may come after the part.
+#[tactic(auto, unfolding(rules::specs::Text::Shape::in_order))]
 pub fn in_order(part: u32, k: u64) -> bool
     ensures { result ≡ shapes.in_order part k }
 {
@@ -370,6 +391,7 @@ pub fn in_order(part: u32, k: u64) -> bool
 }
 
 // What stands after the key of number k, where there are `vars` variables.
+#[tactic(auto, using(crate::proofs::Ways::no_key_lem), unfolding(rules::specs::Text::Shape::line_shape, rules::specs::Text::Shape::key_of))]
 pub fn line_shape(s: &[u8], vars: usize, k: u64, at: usize) -> Next
     ensures { result ≡ shapes.line_shape s.now vars (shapes.key_of k) at }
 {

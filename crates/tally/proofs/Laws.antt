@@ -51,7 +51,8 @@ spaced_most s go most g (Got w n) = by_when (λ (r : Reading). value_of r ≤ mo
 pub block_most : (s : List ℕ) (at : ℕ) → value_of (block_words s at) ≤ length s
 unfolding block_words
 block_most s at =
-    spaced_most s _ (length s) (λ n. spaced_most s _ (length s) (λ m. cells_most s (length s) 0 m (length s) (omega arith)) (number_at s n)) (plain_at s at)
+    let cells : ℕ → Reading = cells_from s (length s) 0 in
+    spaced_most s (λ n. spaced s cells (number_at s n)) (length s) (λ n. spaced_most s cells (length s) (λ m. cells_most s (length s) 0 m (length s) (omega arith)) (number_at s n)) (plain_at s at)
 
 -- ---- a line
 

@@ -1,4 +1,6 @@
 // Answers 21 to 23 to a store text, with how much it holds. Nothing is written. Each reader takes the whole text and a place in it, and answers at every place.
+#![tactic(auto)]
+
 ghost use Rattle.std.specs.Prelude.{◌≡◌, ◌+◌, ◌≤◌, ◌<◌, length};
 ghost use Rattle.rules.specs.Limits.{limits};
 ghost use Rattle.rules.specs.Text.Words as words;
@@ -51,6 +53,7 @@ fn place_of(r: Reading) -> Reading
 }
 
 // A cell: `iN` or `bK`.
+#[tactic(auto, using(crate::proofs::Ways::cell_imm, crate::proofs::Ways::cell_not, crate::proofs::Ways::cell_place, text::proofs::Laws::inside, text::proofs::Laws::number_reads, text::proofs::Laws::plain_reads, text::proofs::Laws::value_most))]
 pub fn cell_word(s: &[u8], at: usize) -> Reading
     ensures { result ≡ texts.cell_word s.now at }
 {
@@ -65,6 +68,7 @@ pub fn cell_word(s: &[u8], at: usize) -> Reading
 }
 
 // An argument: `cN`, or as a cell.
+#[tactic(auto, using(crate::proofs::Ways::arg_cell, crate::proofs::Ways::arg_int, text::proofs::Laws::inside, text::proofs::Laws::number_reads, text::proofs::Laws::value_most))]
 pub fn arg_word(s: &[u8], at: usize) -> Reading
     ensures { result ≡ texts.arg_word s.now at }
 {
@@ -78,6 +82,7 @@ pub fn arg_word(s: &[u8], at: usize) -> Reading
 // ---- block lines
 
 // How many cells: one turn a cell.
+#[tactic(auto, using(crate::proofs::Ways::cells_end, crate::proofs::Ways::cells_go, crate::proofs::Ways::cells_not, crate::proofs::Ways::no_cells, text::proofs::Laws::inside))]
 fn cells_from(s: &[u8], at: usize) -> Reading
     ensures { result ≡ texts.cells_from s.now (length s.now) 0 at }
 {
@@ -134,6 +139,7 @@ fn tag_on(s: &[u8], r: Reading) -> Reading
 }
 
 // A block line after its key: how many cells it has.
+#[tactic(auto, unfolding(rules::specs::Store::Text::block_words))]
 pub fn block_words(s: &[u8], at: usize) -> Reading
     ensures { result ≡ texts.block_words s.now at }
 {
@@ -143,6 +149,7 @@ pub fn block_words(s: &[u8], at: usize) -> Reading
 // ---- a line by its key
 
 // `run=` is 1, `block=` 2, `arg=` 3.
+#[tactic(auto, unfolding(rules::specs::Store::Text::store_key))]
 fn store_key(s: &[u8], at: usize) -> Reading
     ensures { result ≡ texts.store_key s.now at }
 {
@@ -152,6 +159,7 @@ fn store_key(s: &[u8], at: usize) -> Reading
 }
 
 // Whether a line with the key k may come after what was counted.
+#[tactic(auto, unfolding(rules::specs::Store::Text::store_order))]
 fn store_order(params: usize, c: StoreCount, k: u64) -> bool
     ensures { result ≡ texts.store_order params c k }
 {
@@ -168,6 +176,7 @@ fn store_order(params: usize, c: StoreCount, k: u64) -> bool
 }
 
 // What stands after the key of number k.
+#[tactic(auto, unfolding(rules::specs::Store::Text::store_words))]
 fn store_words(s: &[u8], k: u64, at: usize) -> Reading
     ensures { result ≡ texts.store_words s.now k at }
 {
@@ -181,6 +190,7 @@ fn store_words(s: &[u8], k: u64, at: usize) -> Reading
 }
 
 // The counts after a line with the key k and the value v. An argument's datum is not counted, so it may be of any size.
+#[tactic(auto, unfolding(rules::specs::Store::Text::counted))]
 fn counted(c: StoreCount, k: u64, v: u64) -> StoreCount
     requires { Few 290 c × ((k < 3 → v ≤ 4294967295)) }
     ensures { result ≡ texts.counted c k v }
@@ -212,6 +222,7 @@ fn counted(c: StoreCount, k: u64, v: u64) -> StoreCount
     }
 }
 
+#[tactic(auto, unfolding(rules::specs::Store::Text::within))]
 fn within(c: StoreCount) -> bool
     ensures { result ≡ texts.within c }
 {
@@ -247,6 +258,7 @@ fn limited(next: usize, c: StoreCount) -> Lined
 }
 
 // A line from the place after its key on.
+#[tactic(auto, using(crate::proofs::Laws::words_most, crate::proofs::Ways::feed, crate::proofs::Ways::no_feed, crate::proofs::Ways::not_ordered, crate::proofs::Ways::words_not, text::proofs::Laws::inside))]
 fn keyed_line(s: &[u8], params: usize, start: usize, c: StoreCount, k: u64, at: usize) -> Lined
     requires { (length s.now ≤ limits.store) × (Few 290 c × ((1 ≤ k))) }
     ensures { texts.store_line result.answer result.next result.count ≡ texts.store_keyed s.now params start c (Reading.Got k at) }
@@ -266,6 +278,7 @@ fn keyed_line(s: &[u8], params: usize, start: usize, c: StoreCount, k: u64, at: 
     }
 }
 
+#[tactic(auto, using(crate::proofs::Laws::key_reads, text::proofs::Laws::got), unfolding(rules::specs::Store::Text::store_line_at))]
 fn line_at(s: &[u8], params: usize, at: usize, c: StoreCount) -> Lined
     requires { (length s.now ≤ limits.store) × Few 290 c }
     ensures { texts.store_line result.answer result.next result.count ≡ texts.store_line_at s.now params at c }
@@ -317,6 +330,7 @@ fn no_store() -> StoreCount
 }
 
 // One turn a line.
+#[tactic(auto, using(crate::proofs::Laws::few_more, crate::proofs::Laws::line_few, crate::proofs::Laws::no_store_few, crate::proofs::Ways::line_goes, crate::proofs::Ways::line_stops, crate::proofs::Ways::lines_end, crate::proofs::Ways::lines_over))]
 fn lines(s: &[u8], params: usize) -> Tally
     requires { length s.now ≤ limits.store }
     ensures { texts.counted_out result.answer result.count ≡ texts.store_lines s.now params (texts.most_store_lines + 1) 1 0 texts.no_store }
@@ -343,6 +357,7 @@ fn lines(s: &[u8], params: usize) -> Tally
 }
 
 // Answers 21 to 23, or 0, for a program that has so many parameters.
+#[tactic(auto, using(rules::specs::Store::Text::counted_out, crate::proofs::Ways::not_long, crate::proofs::Ways::too_long))]
 pub fn tallied(s: &[u8], params: usize) -> Tally
     ensures { texts.counted_out result.answer result.count ≡ tallied params s.now }
 {

@@ -1,0 +1,2 @@
+use Rattle.prints.proofs.+put_digits.Given as goal
+
