@@ -1,5 +1,7 @@
 // Answers 4 and 5 over the tables of a program, whatever they hold: a row, variable or label named that does not exist, and an int variable's entry that is not `any,0,T`.
 // A function that needs few of the tables says what holds of the program for all the others.
+#![tactic(auto)]
+
 ghost use Rattle.std.specs.Prelude.{◌≡◌, Bool, ◌&&◌, List, [], map, ℕ, ◌<◌, get_or};
 ghost use Rattle.rules.specs.When.{need};
 ghost use Rattle.rules.specs.Answers.{first};

@@ -1,5 +1,7 @@
 // A body line with expressions, read once: its shape and its limits are tested while its nodes are written.
 // If any test fails, the line is refused, and whether by its shape (2) or by a limit (3) is for the caller to find out.
+#![tactic(auto)]
+
 ghost use Rattle.std.specs.Prelude.{◌≡◌};
 ghost use Rattle.rules.specs.Text.Fill as fills;
 ghost use Rattle.once.specs.Once.{operands_once, expr_once, once, last_once, set_once, if_once, rest_once, put_once, line_once};

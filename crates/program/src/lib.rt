@@ -23,7 +23,7 @@ const LABEL_WIDTH: usize = 97;
 const LINE_WIDTH: usize = 5;
 
 // A body line as it stands: what its kind has no use for is 0.
-#[derive(Drop)]
+#[derive(Clone, Copy)]
 pub struct Stored {
     pub kind: u32,
     pub label: u32,

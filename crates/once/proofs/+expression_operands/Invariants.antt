@@ -1,0 +1,2 @@
+use Rattle.once.proofs.+expression_operands.Given as goal
+
