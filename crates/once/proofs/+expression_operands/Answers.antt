@@ -1,5 +1,5 @@
 -- An expression by its depth and its head; operands by their number and the byte before the next one.
-use Rattle.std.proofs.Common.{◌≡◌, ◌+◌, ◌-◌, ◌∙◌, sym, ap, arith}
+use Rattle.std.proofs.Common.{◌+◌, ◌-◌, ◌∙◌, sym, ap, arith}
 use Rattle.rules.specs.declared.Filling.{Filling}
 use Rattle.rules.specs.Text.Fill as fills
 use Rattle.once.specs.Once.{operands_once, expr_once}

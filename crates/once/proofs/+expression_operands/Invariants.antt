@@ -1,5 +1,5 @@
 -- The depth falls from an expression to its operands, and the number of operands left from one to the next.
-use Rattle.std.proofs.Common.{ℕ, ◌+◌, ◌*◌}
+use Rattle.std.proofs.Common.{◌+◌, ◌*◌}
 use Rattle.once.proofs.+expression_operands.Given as goal
 
 abbrev pub decreases-expression : goal.decreases-expression
