@@ -1,4 +1,6 @@
 // The rules of body lines over a program's tables: a function for each statement, and the line by its kind.
+#![tactic(auto)]
+
 ghost use Rattle.std.specs.Prelude.{◌≡◌, true, ◌&&◌, List, ℕ, ltb, length, get_or};
 ghost use Rattle.rules.specs.Numbers.{among};
 ghost use Rattle.rules.specs.Answers.{accepted, answer};
