@@ -56,7 +56,7 @@ fn next_line(s: &[u8], at: usize) -> usize
     i
 }
 
-#[tactic(auto, using(crate::proofs::Ways::line_is, crate::proofs::Ways::row_word, crate::proofs::Ways::tag_word_lem))]
+#[tactic(auto, using(crate::proofs::Ways::line_is))]
 fn block_line(s: &[u8], at: usize) -> BlockLine
     requires { Near 32768 s.now at }
     ensures { result ≡ block_line s.now at }
@@ -84,7 +84,7 @@ fn datum_there(blocks: usize, w: u64) -> bool
 }
 
 // One turn a cell.
-#[tactic(auto, using(crate::proofs::Ways::cell_next, crate::proofs::Ways::cells_done, crate::proofs::Ways::cells_go, crate::proofs::Ways::cells_not))]
+#[tactic(auto, using(crate::proofs::Ways::cells_done, crate::proofs::Ways::cells_not))]
 fn cells_there(s: &[u8], blocks: usize, n: usize, at: usize) -> bool
     requires { (blocks ≤ 256) × ((n ≤ 16384) × Near 65536 s.now at) }
     ensures { result ≡ fills.cells_there s.now blocks n at }
@@ -187,7 +187,7 @@ fn kept_cells(n: usize) -> usize
 }
 
 // One turn a cell of block k.
-#[tactic(auto, using(crate::proofs::Ways::cell_next, crate::proofs::Ways::no_fill, crate::proofs::Ways::one_fill))]
+#[tactic(auto, using(crate::proofs::Ways::no_fill))]
 fn fill_cells(s: &[u8], k: usize, n: usize, at: usize, cells: &mut [u64; 4352])
     requires { (n ≤ 16384) × Near 65536 s.now at }
     ensures { cells.new ≡ fills.fill_cells s.now k n 0 at cells.old }
@@ -276,7 +276,7 @@ fn val_of(s: &[u8], size: &[u32; 6], vars: &[u32; 96], v: usize, at: usize) -> T
 }
 
 // One turn a variable, the first argument line at `at`.
-#[tactic(auto, using(crate::proofs::Ways::next_taken, crate::proofs::Ways::vals_done, crate::proofs::Ways::vals_one))]
+#[tactic(auto, using(crate::proofs::Ways::vals_done))]
 fn fill_vals(s: &[u8], size: &[u32; 6], vars: &[u32; 96], at: usize, vals: &mut [u64; 32])
     requires { Near (length s.now) s.now at }
     ensures { vals.new ≡ fills.fill_vals s.now (vars_from size.now vars.now) 0 at vals.old }
@@ -293,7 +293,7 @@ fn fill_vals(s: &[u8], size: &[u32; 6], vars: &[u32; 96], at: usize, vals: &mut 
 }
 
 // A text of a right shape, with its counts, into the tables, whatever they held.
-#[tactic(auto, using(crate::proofs::Ways::fill_is, crate::proofs::Ways::next_near, crate::proofs::Ways::start_near))]
+#[tactic(auto, using(crate::proofs::Ways::next_near, crate::proofs::Ways::start_near))]
 fn fill(
     s: &[u8],
     size: &[u32; 6],
@@ -318,7 +318,6 @@ fn fill(
 
 // ---- the text, whole
 
-#[tactic(auto, using(storage::proofs::Laws::nothing_is))]
 fn clear(
     store: &mut [u32; 2],
     heads: &mut [u32; 768],
@@ -360,7 +359,7 @@ fn params_of(size: &[u32; 6], vars: &[u32; 96]) -> usize
 }
 
 // Answers 21 to 27, or 0 with the store in the tables. Whatever they held before, they are all 0 on a refusal.
-#[tactic(auto, using(crate::proofs::Ways::by_counts, crate::proofs::Ways::by_fits, crate::proofs::Ways::by_names, crate::proofs::Ways::by_none, crate::proofs::Ways::counts_few, crate::proofs::Ways::text_short), unfolding(rules::specs::View::program))]
+#[tactic(auto, using(crate::proofs::Ways::counts_few, crate::proofs::Ways::text_short))]
 pub fn read(
     s: &[u8],
     size: &[u32; 6],
