@@ -1,4 +1,6 @@
 // The checker: of the stages that refuse, the earliest wins.
+#![tactic(auto)]
+
 ghost use Rattle.std.specs.Prelude.{◌≡◌};
 ghost use Rattle.rules.specs.Answers.{case_of};
 ghost use Rattle.rules.specs.View.{program};
@@ -10,6 +12,7 @@ ghost use Rattle.checker.specs.Says.{Says};
 use rules::{Answer, Verdict};
 
 // Answers 4 to 13 for the program in the tables. Typing comes before the names, and its answer is kept back: where it refuses nothing, every name in an expression exists, and the expressions are not walked for them.
+#[tactic(auto, using(crate::proofs::Laws::by_names, crate::proofs::Laws::by_types, crate::proofs::Laws::by_ends))]
 fn program_judged(
     size: &[u32; 6],
     nodes: &[u64; 4096],
@@ -74,6 +77,7 @@ pub fn check(
 }
 
 // The answer alone, with tables of its own: they are all 0 when they are made, and not cleared once more.
+#[tactic(auto, unfolding(rules::specs::Check::verdict))]
 pub fn answer(s: &[u8]) -> Verdict
     ensures { result ≡ case_of (verdict s.now) }
 {

@@ -12,7 +12,8 @@ use Rattle.rules.specs.View.{tab, boxed_code, offset_code, tag_code, entry_from,
 use Rattle.rules.specs.Text.Layout.{cell, label_width}
 use Rattle.rules.specs.Environments.{with_entry}
 use Rattle.rules.proofs.Laws.Lists.{tab_length, tab_in, tab_ext, tab_set}
-use Rattle.entry.specs.Again.{entry_of, SmallE, codes_again}
+use Rattle.entry.specs.Again.{entry_of, SmallE}
+use Rattle.entry.proofs.Again.{codes_again}
 use Rattle.entry.specs.Codes.{codes_of}
 use Rattle.table.proofs.Laws.{tab_out}
 use Rattle.program.specs.Labels.{env_from, codes_from}

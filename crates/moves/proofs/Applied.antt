@@ -7,7 +7,7 @@ use Rattle.rules.specs.declared.Stepped.TheVariants as T
 use Rattle.rules.specs.When.{need}
 use Rattle.rules.specs.Machine.Tables.{apply_t, code_of, block_width}
 use Rattle.entry.specs.Codes.{writable}
-use Rattle.entry.specs.Again.{written}
+use Rattle.entry.proofs.Again.{written}
 use Rattle.moves.specs.declared.Moved.{Moved}
 use Rattle.moves.specs.Moves.{parts, Ready, Applies}
 

@@ -19,7 +19,8 @@ use Rattle.rules.proofs.Laws.Tests.{by_need, and_both}
 use Rattle.rules.specs.Machine.{Store, tag_in, inside, cells_in, cell_at, need_int, need_imm, need_place, ev_var, ev_arith, ev_val, ev_int, ev_fetch, moved, ev_step, eval, jump_if, jump_on, act_set, store_at, act_put, act_if, act_ifimm, act_iftag, act_ifint, act_return, act, decide}
 use Rattle.rules.specs.Machine.Tables.{store_of, vals_of}
 use Rattle.entry.specs.Codes.{writable}
-use Rattle.entry.specs.Again.{Held, place_writable, read_writable}
+use Rattle.entry.specs.Again.{Held}
+use Rattle.entry.proofs.Again.{place_writable, read_writable}
 use Rattle.storage.proofs.Laws.{blocks_small, cells_small, cell_in, cell_out, val_in, val_out}
 use Rattle.moves.specs.Moves.{lines, Words, Ready}
 
