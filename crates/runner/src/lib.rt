@@ -1,4 +1,6 @@
 // Glue text and store text joined: the glue is judged, then the store; if both pass, the machine runs as long as its budget lasts.
+#![tactic(auto)]
+
 ghost use Rattle.std.specs.Prelude.{◌≡◌, ◌≤◌, length, take, drop};
 ghost use Rattle.rules.specs.Answers.{answer_of};
 ghost use Rattle.rules.specs.View.{program};
@@ -55,6 +57,7 @@ fn outcome(steps: u32, code: u64) -> Ran
 }
 
 // A store text beside a program that was accepted.
+#[tactic(auto, using(crate::proofs::Laws::store_refused, crate::proofs::Laws::store_ran))]
 fn run_store(
     s: &[u8],
     size: &[u32; 6],
@@ -83,6 +86,7 @@ fn run_store(
 }
 
 // The glue is the first n bytes.
+#[tactic(auto, using(crate::proofs::Laws::glue_refused, crate::proofs::Laws::rest_is, crate::proofs::Laws::glue_ran))]
 fn run_parts(s: &[u8], n: usize) -> Ran
     requires { n ≤ length s.now }
     ensures { told result ≡ run_checked (drop n s.now) (checked (take n s.now)) }
@@ -109,6 +113,7 @@ fn run_parts(s: &[u8], n: usize) -> Ran
     run_store(&s[n..], &size, &nodes, &rows, &vars, &labels, &body)
 }
 
+#[tactic(auto, using(crate::proofs::Laws::glue_within), unfolding(rules::specs::Run::running, rules::specs::Run::glue_of, rules::specs::Run::store_text_of))]
 pub fn run(s: &[u8]) -> Ran
     ensures { told result ≡ running s.now }
 {
