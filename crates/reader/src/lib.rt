@@ -134,7 +134,6 @@ fn word_of(r: Reading) -> Word
     }
 }
 
-#[tactic(auto, using(crate::proofs::Laws::near_word, crate::proofs::Laws::worded, text::proofs::Laws::plain_reads))]
 fn plain_word(s: &[u8], at: usize) -> Word
     requires { Near s.now at }
     ensures { Worded s.now at (words.value_of (words.plain_at s.now at)) (words.next_of (words.plain_at s.now at)) result.value result.past }
@@ -142,7 +141,6 @@ fn plain_word(s: &[u8], at: usize) -> Word
     word_of(plain_at(s, at))
 }
 
-#[tactic(auto, using(crate::proofs::Laws::near_word, crate::proofs::Laws::worded, text::proofs::Laws::number_reads))]
 fn number_word(s: &[u8], at: usize) -> Word
     requires { Near s.now at }
     ensures { Worded s.now at (words.value_of (words.number_at s.now at)) (words.next_of (words.number_at s.now at)) result.value result.past }
@@ -150,7 +148,6 @@ fn number_word(s: &[u8], at: usize) -> Word
     word_of(number_at(s, at))
 }
 
-#[tactic(auto, using(crate::proofs::Laws::near_word, crate::proofs::Laws::worded, text::proofs::Laws::var_reads))]
 fn var_word(s: &[u8], at: usize) -> Word
     requires { Near s.now at }
     ensures { Worded s.now at (words.value_of (words.var_at s.now at)) (words.next_of (words.var_at s.now at)) result.value result.past }
@@ -158,7 +155,6 @@ fn var_word(s: &[u8], at: usize) -> Word
     word_of(var_at(s, at))
 }
 
-#[tactic(auto, using(crate::proofs::Laws::near_word, crate::proofs::Laws::worded, shape::proofs::Laws::psi_reads))]
 fn psi_word(s: &[u8], at: usize) -> Word
     requires { Near s.now at }
     ensures { Worded s.now at (words.value_of (shapes.psi_at s.now at)) (words.next_of (shapes.psi_at s.now at)) result.value result.past }
@@ -167,7 +163,7 @@ fn psi_word(s: &[u8], at: usize) -> Word
 }
 
 // A kind: its code.
-#[tactic(auto, using(crate::proofs::Laws::kind_bad, crate::proofs::Laws::kind_int, crate::proofs::Laws::kind_near, crate::proofs::Laws::kind_value_lem, text::proofs::Laws::plain_reads, text::proofs::Laws::value_most))]
+#[tactic(auto, using(crate::proofs::Laws::kind_bad, crate::proofs::Laws::kind_int))]
 fn kind_code(s: &[u8], at: usize) -> Word
     requires { Placed s.now at }
     ensures { Worded s.now at (fills.kind_value s.now (shapes.kind_word s.now at)) (fills.kind_next s.now (shapes.kind_word s.now at)) result.value result.past }
@@ -273,7 +269,6 @@ fn next_field(b: u64, o: u8) -> u8
 }
 
 // One turn a field row.
-#[tactic(auto, using(crate::proofs::Laws::field_fits, crate::proofs::Laws::mark_inside, crate::proofs::Ways::field_not, crate::proofs::Ways::field_put, crate::proofs::Ways::fields_over, crate::proofs::Ways::last_field, crate::proofs::Ways::more_fields_lem, rules::specs::Text::Fill::fields, text::proofs::Laws::plain_reads, text::proofs::Laws::value_most))]
 fn fill_fields(s: &[u8], r: usize, total: usize, from: usize, rows: &mut [u32; 17536]) -> Row
     ensures { fills.fields result.ok result.total rows.new ≡ fills.fill_fields s.now r 257 total rows.old 0 0 from }
 {
@@ -392,7 +387,7 @@ fn fill_test(kind: u32, s: &[u8], at: usize, c: Count, body: &mut [u32; 2560]) -
 
 // ---- a line by its key
 
-#[tactic(auto, using(crate::proofs::Laws::on_from), unfolding(rules::specs::Text::Fill::fill_line, rules::specs::Text::Shape::key_of))]
+#[tactic(auto, unfolding(rules::specs::Text::Fill::fill_line, rules::specs::Text::Shape::key_of))]
 fn header_line(
     s: &[u8],
     k: u64,
@@ -463,7 +458,6 @@ fn refused(answer: u32, next: usize, c: Count) -> Lined
     }
 }
 
-#[tactic(auto, using(crate::proofs::Ways::refused, rules::specs::Text::lined, rules::specs::Text::Fill::filled))]
 fn limited(k: u64, next: usize, f: Fill) -> Lined
     ensures { (t : layout.Tables) → texts.lined result.answer result.next result.count t ≡ texts.limited k next (fills.filled f.ok f.count t) }
 {
@@ -480,7 +474,6 @@ fn limited(k: u64, next: usize, f: Fill) -> Lined
 }
 
 // A line without expressions, and no label, whose shape is right up to n.
-#[tactic(auto, using(crate::proofs::Ways::feed, crate::proofs::Ways::no_feed, text::proofs::Laws::inside))]
 fn shaped_line(
     s: &[u8],
     k: u64,
@@ -502,7 +495,6 @@ fn shaped_line(
 }
 
 // A line that could not be read at once: its shape is wrong (2), or it passes a limit (3).
-#[tactic(auto, using(crate::proofs::Once::late_bad, crate::proofs::Once::late_no_feed, crate::proofs::Once::late_limit))]
 fn late(s: &[u8], k: u64, at: usize, c: Count) -> Lined
     ensures { (t u : layout.Tables) → Late s.now k at c t → settled (texts.lined result.answer result.next result.count u) ≡ settled (texts.shaped s.now k at c t (shapes.line_shape s.now c.vars (shapes.key_of k) at)) }
 {
@@ -519,7 +511,6 @@ fn late(s: &[u8], k: u64, at: usize, c: Count) -> Lined
 }
 
 // A line with expressions.
-#[tactic(auto, using(crate::proofs::Once::once_room, crate::proofs::Once::once_inside, crate::proofs::Once::once_line, crate::proofs::Once::once_late))]
 fn expr_line(
     s: &[u8],
     k: u64,
@@ -567,7 +558,7 @@ fn tag_once(
 }
 
 // I,T
-#[tactic(auto, using(once::proofs::Mark::word_bad, once::proofs::Mark::no_mark, once::proofs::Mark::mark, text::proofs::Laws::inside), unfolding(crate::specs::Labels::offset_once))]
+#[tactic(auto, using(once::proofs::Mark::word_bad, once::proofs::Mark::no_mark), unfolding(crate::specs::Labels::offset_once))]
 fn offset_once(s: &[u8], l: usize, v: usize, b: u64, at: usize, labels: &mut [u64; 6208]) -> Next
     ensures { entered result labels.new ≡ offset_once s.now l v b at labels.old }
 {
@@ -583,7 +574,7 @@ fn offset_once(s: &[u8], l: usize, v: usize, b: u64, at: usize, labels: &mut [u6
 }
 
 // B,I,T
-#[tactic(auto, using(once::proofs::Mark::word_bad, once::proofs::Mark::no_mark, once::proofs::Mark::mark, text::proofs::Laws::inside), unfolding(crate::specs::Labels::entry_once))]
+#[tactic(auto, using(once::proofs::Mark::word_bad, once::proofs::Mark::no_mark), unfolding(crate::specs::Labels::entry_once))]
 fn entry_once(s: &[u8], l: usize, v: usize, at: usize, labels: &mut [u64; 6208]) -> Next
     ensures { entered result labels.new ≡ entry_once s.now l v at labels.old }
 {
@@ -629,7 +620,7 @@ fn entries_once(s: &[u8], l: usize, vars: usize, from: usize, labels: &mut [u64;
 }
 
 // A label. Its limits are known before its entries are read, and it is looked at for its shape alone only if it passes one.
-#[tactic(auto, using(crate::proofs::Labels::label_bad, crate::proofs::Labels::label_no_feed, crate::proofs::Labels::label_whole, crate::proofs::Labels::labels_full, crate::proofs::Labels::lines_full, text::proofs::Laws::inside))]
+#[tactic(auto, using(crate::proofs::Labels::labels_full, crate::proofs::Labels::lines_full))]
 fn label_line(
     s: &[u8],
     at: usize,
@@ -678,7 +669,6 @@ fn has_expr(k: u64) -> bool
 }
 
 // A line from the place after its key on.
-#[tactic(auto, using(crate::proofs::Once::no_label, crate::proofs::Ways::not_ordered, crate::proofs::Ways::ordered))]
 fn keyed_line(
     s: &[u8],
     start: usize,
@@ -710,7 +700,7 @@ fn keyed_line(
     }
 }
 
-#[tactic(auto, using(shape::proofs::Laws::key_reads, text::proofs::Laws::got, text::proofs::Laws::inside), unfolding(rules::specs::Text::line_at))]
+#[tactic(auto, unfolding(rules::specs::Text::line_at))]
 fn line_at(
     s: &[u8],
     at: usize,
@@ -754,7 +744,6 @@ fn ended(c: Count, size: &mut [u32; 6]) -> Answer
 }
 
 // One turn a line.
-#[tactic(auto, using(crate::proofs::Laws::line_fits, crate::proofs::Once::fits_on, crate::proofs::Once::settled_fits, crate::proofs::Ways::goes_on, crate::proofs::Ways::lines_end, crate::proofs::Ways::lines_line, crate::proofs::Ways::lines_over, crate::proofs::Ways::refused, rules::specs::Text::lined, text::proofs::Laws::inside))]
 fn lines(
     s: &[u8],
     size: &mut [u32; 6],
