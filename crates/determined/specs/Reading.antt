@@ -11,11 +11,17 @@ use Rattle.tally.specs.declared.Tally.{Tally}
 use Rattle.store.specs.Says.{Says}
 use Rattle.determined.specs.Determined.{Determined, one, result, both, skip}
 use Rattle.determined.specs.Tables.{Six, six}
+use Rattle.names.specs.contracts as names_clauses
 use Rattle.names.proofs as names
+use Rattle.once.specs.contracts as once_clauses
 use Rattle.once.proofs as once
+use Rattle.reader.specs.contracts as reader_clauses
 use Rattle.reader.proofs as reader
+use Rattle.tally.specs.contracts as tally_clauses
 use Rattle.tally.proofs as tally
+use Rattle.fits.specs.contracts as fits_clauses
 use Rattle.fits.proofs as fits
+use Rattle.store.specs.contracts as store_clauses
 use Rattle.store.proofs as store
 
 -- the six tables that a glue text leaves
@@ -34,7 +40,7 @@ tally_of (counted_out a c) = record { answer = a; count = c }
 
 -- ---- names
 
-pub names_named : Determined names.named.ended names.named.Reads.Learnt
+pub names_named : Determined names_clauses.named.ended names.named.Reads.Learnt
 names_named κs a x y s t = result
 
 -- ---- once
@@ -49,36 +55,36 @@ nodes_in (made f N B) = N
 abbrev body_in : Onced → List ℕ
 body_in (made f N B) = B
 
-pub once_line_once : Determined once.line_once.ended once.line_once.Reads.Learnt
+pub once_line_once : Determined once_clauses.line_once.ended once.line_once.Reads.Learnt
 once_line_once κs a x y s t h k =
     let e = one h k in
     (ap filling_in e, skip (skip (skip (skip (skip (both (ap nodes_in e) (both (ap body_in e) refl)))))))
 
 -- ---- reader
 
-pub reader_read : Determined reader.read.ended reader.read.Reads.Learnt
+pub reader_read : Determined reader_clauses.read.ended reader.read.Reads.Learnt
 reader_read κs a x y s t h k = (one h.answer k.answer, skip (one (left h) (left k)))
 
 -- ---- tally
 
-pub tally_cell_word : Determined tally.cell_word.ended tally.cell_word.Reads.Learnt
+pub tally_cell_word : Determined tally_clauses.cell_word.ended tally.cell_word.Reads.Learnt
 tally_cell_word κs a x y s t = result
 
-pub tally_arg_word : Determined tally.arg_word.ended tally.arg_word.Reads.Learnt
+pub tally_arg_word : Determined tally_clauses.arg_word.ended tally.arg_word.Reads.Learnt
 tally_arg_word κs a x y s t = result
 
-pub tally_block_words : Determined tally.block_words.ended tally.block_words.Reads.Learnt
+pub tally_block_words : Determined tally_clauses.block_words.ended tally.block_words.Reads.Learnt
 tally_block_words κs a x y s t = result
 
-pub tally_tallied : Determined tally.tallied.ended tally.tallied.Reads.Learnt
+pub tally_tallied : Determined tally_clauses.tallied.ended tally.tallied.Reads.Learnt
 tally_tallied κs a x y s t h k = (ap tally_of (one h k), refl)
 
 -- ---- fits
 
-pub fits_fitted : Determined fits.fitted.ended fits.fitted.Reads.Learnt
+pub fits_fitted : Determined fits_clauses.fitted.ended fits.fitted.Reads.Learnt
 fits_fitted κs a x y s t h k = result (h [] [] []) (k [] [] [])
 
 -- ---- store
 
-pub store_read : Determined store.read.ended store.read.Reads.Learnt
+pub store_read : Determined store_clauses.read.ended store.read.Reads.Learnt
 store_read κs a x y s t h k = (one (h [] [] []).answer (k [] [] []).answer, skip (skip (skip (skip (one (left_store (h [] [] [])) (left_store (k [] [] [])))))))

@@ -1,36 +1,33 @@
 -- The contracts of eval, act, moves and machine determine. Assumes nothing.
-use base.Logic.{emp}
-use contract.Lifetimes.{Lfts}
-use denote.Triple.Entry.{Args, Res}
-use denote.Triple.Clauses.{AtExit}
-use borrow.Fn.World.{World, Pr}
-use borrow.Fn.Claims.{AllOf}
-use borrow.Fn.Read.{Read, r_last, all_models, no_know}
 use Rattle.rules.specs.Prelude.{ℕ, List, [], ◌≡◌, refl}
 use Rattle.rules.specs.declared.Stepped.{Stepped}
 use Rattle.rules.specs.Machine.Tables.{MTables}
 use Rattle.moves.specs.declared.Moved.{Moved}
 use Rattle.moves.specs.Moves.{parts}
 use Rattle.determined.specs.Determined.{Determined, one, result, both, skip}
+use Rattle.eval.specs.contracts as eval_clauses
 use Rattle.eval.proofs as eval
+use Rattle.act.specs.contracts as act_clauses
 use Rattle.act.proofs as act
+use Rattle.moves.specs.contracts as moves_clauses
 use Rattle.moves.proofs as moves
+use Rattle.machine.specs.contracts as machine_clauses
 use Rattle.machine.proofs as machine
 
 -- ---- eval
 
-pub eval_moved : Determined eval.moved.ended eval.moved.Reads.Learnt
+pub eval_moved : Determined eval_clauses.moved.ended eval.moved.Reads.Learnt
 eval_moved κs a x y s t h k = result (h []) (k [])
 
-pub eval_var_given : Determined eval.var_given.ended eval.var_given.Reads.Learnt
+pub eval_var_given : Determined eval_clauses.var_given.ended eval.var_given.Reads.Learnt
 eval_var_given κs a x y s t h k = result (h []) (k [])
 
-pub eval_given_at : Determined eval.given_at.ended eval.given_at.Reads.Learnt
+pub eval_given_at : Determined eval_clauses.given_at.ended eval.given_at.Reads.Learnt
 eval_given_at κs a x y s t h k = result (h [] []) (k [] [])
 
 -- ---- act
 
-pub act_decide_at : Determined act.decide_at.ended act.decide_at.Reads.Learnt
+pub act_decide_at : Determined act_clauses.decide_at.ended act.decide_at.Reads.Learnt
 act_decide_at κs a x y s t h k = result (h [] []) (k [] [])
 
 -- ---- moves and machine: a step and a run of a machine in parts
@@ -49,22 +46,11 @@ after : {A L : Type 0} {x y : A} {C W C' W' : List ℕ} {l : L} → (x ≡ y) ×
     → (x ≡ y) × (◌≡◌ {A = Unit {0} × (Unit {0} × (Unit {0} × (Unit {0} × (Unit {0} × (Unit {0} × (List ℕ × (List ℕ × L)))))))} (tt, (tt, (tt, (tt, (tt, (tt, (C, (W, l)))))))) (tt, (tt, (tt, (tt, (tt, (tt, (C', (W', l)))))))))
 after g = (g.0, skip (skip (skip (skip (skip (skip (both g.1.0 (both g.1.1 refl))))))))
 
-pub moves_move_at : Determined moves.move_at.ended moves.move_at.Reads.Learnt
+pub moves_move_at : Determined moves_clauses.move_at.ended moves.move_at.Reads.Learnt
 moves_move_at κs a x y s t h k = after (agree (h [] []) (k [] []))
 
--- `step` takes a struct of references, which the kit does not read by itself: what its clause tells is read here, by the kit's rule for one plain fact.
-module _ (κs : Lfts 8) (a : Args machine.step.signature κs) (r : Res machine.step.signature κs) (s : AtExit machine.step.ended κs) where
-  abbrev step_says : (w : World) → Pr w
-  step_says w = (machine.step.clauses w.𝓛 w.𝓜.mem w.𝓡.run κs a).ensures tt r s
-
-  abbrev step_read : Read (λ w. emp w.𝓤) no_know step_says
-  step_read = all_models step_says (λ w. r_last _) (λ w. refl) (λ w. refl) (λ w. refl)
-
-  abbrev step_learnt : Type 0
-  step_learnt = AllOf step_read.tells
-
-pub machine_step : Determined machine.step.ended step_learnt
+pub machine_step : Determined machine_clauses.step.ended machine.step.Reads.Learnt
 machine_step κs a x y s t h k = (one (h [] []).0 (k [] []).0, both (one (h [] []).1 (k [] []).1) refl)
 
-pub machine_run : Determined machine.run.ended machine.run.Reads.Learnt
+pub machine_run : Determined machine_clauses.run.ended machine.run.Reads.Learnt
 machine_run κs a x y s t h k = after (agree (h [] []) (k [] []))
