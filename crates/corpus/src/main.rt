@@ -1,4 +1,5 @@
 // Many texts from standard input: for each a line `check N` or `run N`, then N bytes. What the checking or the running program prints is printed for each.
+#![tactic(auto)]
 
 // The standard input and output, as the system numbers them.
 const STDIN_FILENO: i32 = 0;

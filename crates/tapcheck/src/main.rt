@@ -1,5 +1,6 @@
 // The checking program: a glue text from standard input; the number and the line of its answer to standard output.
 // No more is read than decides the answer: one byte over the limit is too long, whatever follows.
+#![tactic(auto)]
 
 // The standard input and output, as the system numbers them.
 const STDIN_FILENO: i32 = 0;

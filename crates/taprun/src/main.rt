@@ -1,5 +1,6 @@
 // The running program: glue text and store text joined, from standard input; the answer, how the run stands, its steps and its value to standard output.
 // No more is read than decides the answer: where so many bytes are there, the glue is longer than 32,768 or the store longer than 16,384, whatever follows.
+#![tactic(auto)]
 
 // The standard input and output, as the system numbers them.
 const STDIN_FILENO: i32 = 0;
