@@ -1,5 +1,10 @@
 // Many texts from standard input: for each a line `check N` or `run N`, then N bytes. What the checking or the running program prints is printed for each.
-use libc::{STDIN_FILENO, STDOUT_FILENO};
+#![tactic(auto)]
+
+// The standard input and output, as the system numbers them.
+const STDIN_FILENO: i32 = 0;
+
+const STDOUT_FILENO: i32 = 1;
 
 // The next byte of the input, 256 at its end.
 fn next_byte() -> u64 {

@@ -2,8 +2,14 @@
 // With an empty standard input the tables of one program and its store are mangled: each part of the machine by turns is filled with all ones, with 2^31
 // and with zero. The stored output is worked out by hand from the written rules.
 // With `SEED COUNT` as standard input, COUNT machines are mangled by a generator and run, and their answers are counted.
-use libc::{STDIN_FILENO, STDOUT_FILENO};
+#![tactic(auto)]
+
 use rules::Stepped;
+
+// The standard input and output, as the system numbers them.
+const STDIN_FILENO: i32 = 0;
+
+const STDOUT_FILENO: i32 = 1;
 
 // A block is told by its tag, and its two cells are added.
 const SUM_GLUE: [u8; 153] =

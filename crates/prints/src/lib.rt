@@ -51,6 +51,7 @@ fn put_digits(out: &mut [u8; 128], at: usize, most: usize, n: u64) -> usize
     put_byte(out, next, (48 + n % 10) as u8)
 }
 
+#[tactic(auto, unfolding(rules::specs::Run::decimal))]
 fn put_decimal(out: &mut [u8; 128], at: usize, n: u64) -> usize
     requires { at + length (decimal n) ≤ 128 }
     ensures { Puts out.old at (decimal n) out.new result }
@@ -84,6 +85,7 @@ fn put_state(out: &mut [u8; 128], at: usize, s: State) -> usize
     }
 }
 
+#[tactic(auto, unfolding(rules::specs::Run::value_text))]
 fn put_datum(out: &mut [u8; 128], at: usize, d: Datum) -> usize
     requires { at + length (value_text (Given.Has d)) ≤ 128 }
     ensures { Puts out.old at (value_text (Given.Has d)) out.new result }
@@ -104,6 +106,7 @@ fn put_datum(out: &mut [u8; 128], at: usize, d: Datum) -> usize
     }
 }
 
+#[tactic(auto, unfolding(rules::specs::Run::value_text))]
 fn put_value(out: &mut [u8; 128], at: usize, v: Given) -> usize
     requires { at + length (value_text v) ≤ 128 }
     ensures { Puts out.old at (value_text v) out.new result }
@@ -117,6 +120,7 @@ fn put_value(out: &mut [u8; 128], at: usize, v: Given) -> usize
 // ---- what the programs print
 
 // The checking program's text, and how many bytes it has.
+#[tactic(auto, using(crate::specs::Room::decimal_room))]
 pub fn answer_text(a: Answer, out: &mut [u8; 128]) -> usize
     ensures { (out.new ≡ printed (answer_text a)) × (result ≡ length (answer_text a)) }
 {
@@ -131,6 +135,7 @@ pub fn answer_text(a: Answer, out: &mut [u8; 128]) -> usize
 }
 
 // The running program's text, and how many bytes it has.
+#[tactic(auto, using(crate::specs::Room::answer_most, crate::specs::Room::state_room, crate::specs::Room::decimal_room, crate::specs::Room::value_room))]
 pub fn result_text(
     answer: Answer,
     state: State,

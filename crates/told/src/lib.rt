@@ -1,4 +1,6 @@
 // What the two programs print, from what they read.
+#![tactic(auto)]
+
 ghost use Rattle.std.specs.Prelude.{◌≡◌, length};
 ghost use Rattle.io.specs.Counts.{IsPrefixLen};
 ghost use Rattle.rules.specs.Run.{check_prints, run_prints};
