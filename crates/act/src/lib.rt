@@ -1,5 +1,7 @@
 // What the line at a place of the body does in the machine, over the tables of a program and of a store: a function for each statement, and the line by its kind.
 // Nothing is written here. Any numbers in the tables are answered: what has no meaning is stuck.
+#![tactic(auto)]
+
 ghost use Rattle.std.specs.Prelude.{◌≡◌, List, ℕ, pos, length};
 ghost use Rattle.rules.specs.Numbers.{eq_z};
 ghost use Rattle.rules.specs.View.{rows_from, vars_from, tree_of, tree_at, stmt_from, program};
@@ -14,6 +16,7 @@ use rules::{Act, Datum, Given, Num};
 // ---- jumps
 
 // To label l if `on`, else to the next line; stuck where that label is absent.
+#[tactic(auto, unfolding(rules::specs::Machine::jump_on, rules::specs::View::program))]
 fn jump_on(size: &[u32; 6], labels: &[u64; 6208], body: &[u32; 2560], l: usize, on: bool) -> Act
     ensures { (N R D : List ℕ) → result ≡ jump_on (program (tables_of size.now N R D labels.now body.now)) l on }
 {
@@ -29,6 +32,7 @@ fn jump_on(size: &[u32; 6], labels: &[u64; 6208], body: &[u32; 2560], l: usize, 
 }
 
 // On any number but 0.
+#[tactic(auto, unfolding(rules::specs::Machine::act_if))]
 fn act_if(size: &[u32; 6], labels: &[u64; 6208], body: &[u32; 2560], l: usize, x: Given) -> Act
     ensures { (N R D : List ℕ) → result ≡ act_if (program (tables_of size.now N R D labels.now body.now)) l x }
 {
@@ -42,6 +46,7 @@ fn act_if(size: &[u32; 6], labels: &[u64; 6208], body: &[u32; 2560], l: usize, x
     }
 }
 
+#[tactic(auto, unfolding(rules::specs::Machine::act_ifimm))]
 fn act_ifimm(size: &[u32; 6], labels: &[u64; 6208], body: &[u32; 2560], l: usize, x: Given) -> Act
     ensures { (N R D : List ℕ) → result ≡ act_ifimm (program (tables_of size.now N R D labels.now body.now)) l x }
 {
@@ -56,6 +61,7 @@ fn act_ifimm(size: &[u32; 6], labels: &[u64; 6208], body: &[u32; 2560], l: usize
 }
 
 // Whether n is the tag t. A tag of a table may be larger than any number.
+#[tactic(auto, using(number::proofs::Laws::plus_is, number::proofs::Laws::minus_is))]
 fn is_tag(t: u32, n: Num) -> bool
     ensures { result ≡ eq_z (pos t) n.n }
 {
@@ -66,6 +72,7 @@ fn is_tag(t: u32, n: Num) -> bool
 }
 
 // The tests of `iftag` on the place at offset o of block b, in their order.
+#[tactic(auto, using(crate::proofs::Laws::tag_absent, crate::proofs::Laws::tag_goes, crate::proofs::Laws::tag_inside))]
 fn tag_jump(
     size: &[u32; 6],
     labels: &[u64; 6208],
@@ -92,6 +99,7 @@ fn tag_jump(
     }
 }
 
+#[tactic(auto, unfolding(rules::specs::Machine::act_iftag))]
 fn act_iftag(
     size: &[u32; 6],
     labels: &[u64; 6208],
@@ -114,6 +122,7 @@ fn act_iftag(
     }
 }
 
+#[tactic(auto, unfolding(rules::specs::Machine::act_ifint))]
 fn act_ifint(
     size: &[u32; 6],
     labels: &[u64; 6208],
@@ -136,6 +145,7 @@ fn act_ifint(
 
 // ---- `set`, `put` and `return`
 
+#[tactic(auto, using(rules::proofs::Sound::StepTables::vals_length), unfolding(rules::specs::Machine::act_set))]
 fn act_set(size: &[u32; 6], v: usize, x: Given) -> Act
     ensures { (D W : List ℕ) → result ≡ act_set (vals_of (length (vars_from size.now D)) W) v x }
 {
@@ -179,6 +189,7 @@ fn put_to(to: Given, y: Given) -> Act
     }
 }
 
+#[tactic(auto, unfolding(rules::specs::Machine::act_put))]
 fn act_put(store: &[u32; 2], heads: &[u32; 768], m: Num, x: Given, y: Given) -> Act
     ensures { (C : List ℕ) → result ≡ act_put (store_of store.now heads.now C) m x y }
 {
@@ -204,6 +215,7 @@ fn act_return(x: Given) -> Act
 // ---- the lines
 
 // What the expression at node k gives.
+#[tactic(auto, using(eval::proofs::Laws::tree_of_lem))]
 fn given(
     size: &[u32; 6],
     nodes: &[u64; 4096],
@@ -220,6 +232,7 @@ fn given(
 }
 
 // A and E of a `put`: E begins at the node after A.
+#[tactic(auto, using(crate::proofs::Laws::put_both))]
 fn put_line(
     size: &[u32; 6],
     nodes: &[u64; 4096],
@@ -240,6 +253,7 @@ fn put_line(
 }
 
 // What stands at a place of the body's table, by its kind.
+#[tactic(auto, using(crate::proofs::Laws::goto_line, crate::proofs::Laws::if_line, crate::proofs::Laws::ifimm_line, crate::proofs::Laws::ifint_line, crate::proofs::Laws::iftag_line, crate::proofs::Laws::label_line_lem, crate::proofs::Laws::no_line, crate::proofs::Laws::put_line_lem, crate::proofs::Laws::return_line, crate::proofs::Laws::set_line))]
 fn line_act(
     size: &[u32; 6],
     nodes: &[u64; 4096],
@@ -280,6 +294,7 @@ fn line_act(
 }
 
 // What the line at a place of the body does; stuck where the lines run out.
+#[tactic(auto, using(crate::proofs::Laws::line_past, crate::proofs::Laws::line_there))]
 pub fn decide_at(
     size: &[u32; 6],
     nodes: &[u64; 4096],

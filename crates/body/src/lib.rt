@@ -1,4 +1,6 @@
 // The rules of body lines over a program's tables: a function for each statement, and the line by its kind.
+#![tactic(auto)]
+
 ghost use Rattle.std.specs.Prelude.{◌≡◌, true, ◌&&◌, List, ℕ, ltb, length, get_or};
 ghost use Rattle.rules.specs.Numbers.{among};
 ghost use Rattle.rules.specs.Answers.{accepted, answer};
@@ -92,6 +94,7 @@ fn is_imm(b: Boxed) -> bool
 }
 
 // Whether row r has a product with tag n.
+#[tactic(auto, using(number::specs::Places::index_at, number::specs::Places::index_out))]
 fn has_tag(size: &[u32; 6], rows: &[u32; 17536], r: usize, n: Num) -> bool
     ensures { result ≡ among n.n (prods_of (rows_from size.now rows.now) r) }
 {
@@ -102,6 +105,7 @@ fn has_tag(size: &[u32; 6], rows: &[u32; 17536], r: usize, n: Num) -> bool
 }
 
 // Whether label l is there and covers an environment.
+#[tactic(auto, using(crate::proofs::Laws::env_covers))]
 fn lands(size: &[u32; 6], labels: &[u64; 6208], l: usize, env: Env) -> bool
     ensures { result ≡ (ltb l (length (labels_from size.now labels.now)) && covers (labels_from size.now labels.now) l env) }
 {
@@ -125,6 +129,7 @@ fn jump_to(size: &[u32; 6], labels: &[u64; 6208], l: usize, there: Env, on: Deed
 }
 
 // What the expression at node k is judged as, in the environment that the codes stand for.
+#[tactic(auto, using(typing::proofs::Laws::tree_of_lem))]
 fn judged(
     size: &[u32; 6],
     rows: &[u32; 17536],
@@ -142,6 +147,7 @@ fn judged(
 
 // ---- the statements
 
+#[tactic(auto, unfolding(rules::specs::Body::rule_set))]
 fn rule_set(size: &[u32; 6], vars: &[u32; 96], v: usize, x: Judged) -> Deed
     ensures { (L : List ℕ) (m : ℕ) (Γ : Env) → line_by L m Γ result ≡ rule_set (vars_from size.now vars.now) v x Γ }
 {
@@ -178,6 +184,7 @@ fn put_at(size: &[u32; 6], rows: &[u32; 17536], r: usize, l: Kind, d: Entry, a: 
     }
 }
 
+#[tactic(auto, unfolding(rules::specs::Body::rule_put))]
 fn put_judged(size: &[u32; 6], rows: &[u32; 17536], n: Num, x: Judged, y: Judged) -> Deed
     ensures { (L : List ℕ) (m : ℕ) (Γ : Env) → line_by L m Γ result ≡ rule_put (rows_from size.now rows.now) n x y Γ }
 {
@@ -197,6 +204,7 @@ fn put_judged(size: &[u32; 6], rows: &[u32; 17536], n: Num, x: Judged, y: Judged
 }
 
 // A and E of a `put`: E begins at the node after A.
+#[tactic(auto, using(typing::proofs::Laws::after_of_lem, typing::proofs::Laws::tree_of_lem))]
 fn rule_put(
     size: &[u32; 6],
     rows: &[u32; 17536],
@@ -216,12 +224,14 @@ fn rule_put(
     put_judged(size, rows, n, x, y)
 }
 
+#[tactic(auto, unfolding(rules::specs::Body::rule_goto))]
 fn rule_goto(size: &[u32; 6], labels: &[u64; 6208], env: Env, l: usize) -> Deed
     ensures { (L : List ℕ) (m : ℕ) → line_by L m env result ≡ rule_goto (labels_from size.now labels.now) l env }
 {
     jump_to(size, labels, l, env, went(false, Then::Stays))
 }
 
+#[tactic(auto, unfolding(rules::specs::Body::rule_if))]
 fn rule_if(size: &[u32; 6], labels: &[u64; 6208], env: Env, l: usize, x: Judged) -> Deed
     ensures { (L : List ℕ) (m : ℕ) → line_by L m env result ≡ rule_if (labels_from size.now labels.now) l x env }
 {
@@ -235,6 +245,7 @@ fn rule_if(size: &[u32; 6], labels: &[u64; 6208], env: Env, l: usize, x: Judged)
 }
 
 // Jumping, the variable is `imm`; falling, it is `box`.
+#[tactic(auto, unfolding(rules::specs::Body::rule_ifimm))]
 fn rule_ifimm(
     size: &[u32; 6],
     vars: &[u32; 96],
@@ -281,6 +292,7 @@ fn tag_jump(
 }
 
 // The tests of `iftag` on a value of row r, in their order.
+#[tactic(auto, unfolding(rules::specs::Body::rule_iftag))]
 fn tag_test(
     size: &[u32; 6],
     rows: &[u32; 17536],
@@ -308,6 +320,7 @@ fn tag_test(
     refused(10)
 }
 
+#[tactic(auto, unfolding(rules::specs::Body::rule_iftag))]
 fn rule_iftag(
     size: &[u32; 6],
     rows: &[u32; 17536],
@@ -330,6 +343,7 @@ fn rule_iftag(
 }
 
 // The tests of `ifint` on a value of row r, in their order.
+#[tactic(auto, unfolding(rules::specs::Body::rule_ifint))]
 fn int_test(
     size: &[u32; 6],
     rows: &[u32; 17536],
@@ -357,6 +371,7 @@ fn int_test(
     refused(10)
 }
 
+#[tactic(auto, unfolding(rules::specs::Body::rule_ifint))]
 fn rule_ifint(
     size: &[u32; 6],
     rows: &[u32; 17536],
@@ -378,6 +393,7 @@ fn rule_ifint(
     }
 }
 
+#[tactic(auto, unfolding(rules::specs::Body::rule_return))]
 fn rule_return(size: &[u32; 6], x: Judged) -> Deed
     ensures { (L : List ℕ) (m : ℕ) (Γ : Env) → line_by L m Γ result ≡ rule_return (kind_code (get_or size.now 0 0)) x Γ }
 {
@@ -399,6 +415,7 @@ fn rule_return(size: &[u32; 6], x: Judged) -> Deed
 }
 
 // What falls in is covered by the label's own environment, which holds from there on.
+#[tactic(auto, unfolding(crate::specs::Lines::label_line))]
 fn rule_label(size: &[u32; 6], labels: &[u64; 6208], live: bool, env: Env, l: usize) -> Deed
     ensures { (D : List ℕ) → line_by labels.now (length (vars_from size.now D)) env result ≡ label_line (env_from labels.now l (length (vars_from size.now D))) live env }
 {
@@ -442,6 +459,7 @@ fn own_judged(
 }
 
 // What body line i does, which is reached or not. The codes stand for the environment.
+#[tactic(auto, using(crate::proofs::Laws::goto_line, crate::proofs::Laws::if_line, crate::proofs::Laws::ifimm_line, crate::proofs::Laws::ifint_line, crate::proofs::Laws::iftag_line, crate::proofs::Laws::label_line_lem, crate::proofs::Laws::no_line, crate::proofs::Laws::put_line_lem, crate::proofs::Laws::return_line, crate::proofs::Laws::set_line))]
 fn deed_of(
     size: &[u32; 6],
     rows: &[u32; 17536],
@@ -497,6 +515,7 @@ fn answered(n: u32, line: usize) -> Answer
 }
 
 // The number for the line of variable v: of a value local N suits (9).
+#[tactic(auto, unfolding(rules::specs::Body::local_line, rules::specs::Program::kind_at))]
 fn local_line(size: &[u32; 6], rows: &[u32; 17536], vars: &[u32; 96], v: usize) -> u32
     ensures { result ≡ local_line (rows_from size.now rows.now) (get_or (vars_from size.now vars.now) v no_var) }
 {
@@ -518,6 +537,7 @@ fn local_line(size: &[u32; 6], rows: &[u32; 17536], vars: &[u32; 96], v: usize) 
 }
 
 // The lines of the variables. They stand after `ret` and the rows.
+#[tactic(auto, using(table::proofs::Passes::lines_done, table::proofs::Passes::lines_on, table::proofs::Passes::lines_no, crate::proofs::Laws::locals_start, program::proofs::Laws::rows_small, program::proofs::Laws::vars_small), unfolding(crate::specs::Lines::locals_in))]
 fn locals_typed(size: &[u32; 6], rows: &[u32; 17536], vars: &[u32; 96]) -> Answer
     ensures { (L N B : List ℕ) → result ≡ locals_in (tables_of size.now N rows.now vars.now L B) }
 {
@@ -545,6 +565,7 @@ fn local_entry(k: Kind, n: Num) -> Entry
 }
 
 // How variable v starts; past the variables nothing is known.
+#[tactic(auto, unfolding(rules::specs::Environments::start_at, rules::specs::Program::kind_at))]
 fn start_entry(size: &[u32; 6], vars: &[u32; 96], v: usize) -> Entry
     ensures { result ≡ start_at (vars_from size.now vars.now) v }
 {
@@ -565,6 +586,7 @@ fn start_entry(size: &[u32; 6], vars: &[u32; 96], v: usize) -> Entry
 }
 
 // The numbers of the environment in which the body starts.
+#[tactic(auto, using(program::proofs::Places::entered_all, program::proofs::Places::entered_end, program::proofs::Places::entered_step, coded::proofs::Laws::blank), unfolding(rules::specs::Environments::start_env, coded::specs::Coded::env_of, rules::specs::Environments::with_entry))]
 fn start_codes(size: &[u32; 6], vars: &[u32; 96]) -> [u64; 96]
     ensures { env_of result (length (vars_from size.now vars.now)) ≡ start_env (vars_from size.now vars.now) }
 {
@@ -579,6 +601,7 @@ fn start_codes(size: &[u32; 6], vars: &[u32; 96]) -> [u64; 96]
 }
 
 // The lines of the body, each in the environment that the line before it leaves. Its numbers are kept beside it, for the expressions.
+#[tactic(auto, using(crate::proofs::Laws::ahead_end, crate::proofs::Laws::ahead_no, crate::proofs::Laws::ahead_on, crate::proofs::Laws::lines_start, crate::proofs::Laws::own_count, crate::proofs::Laws::takes_in, crate::proofs::Laws::takes_past, coded::proofs::Laws::env_label, program::proofs::Laws::lines_small, program::proofs::Laws::rows_small, program::proofs::Laws::vars_small), unfolding(rules::specs::Environments::with_entry))]
 fn lines_typed(
     size: &[u32; 6],
     rows: &[u32; 17536],
@@ -623,6 +646,7 @@ fn lines_typed(
 }
 
 // 6 to 12, line by line.
+#[tactic(auto, using(crate::proofs::Laws::types_parts))]
 pub fn typed(
     size: &[u32; 6],
     rows: &[u32; 17536],
@@ -645,6 +669,7 @@ pub fn typed(
 // ---- the last line
 
 // Whether body line i is `goto` or `return`.
+#[tactic(auto, using(crate::proofs::Laws::end_kind, crate::proofs::Laws::end_rest), unfolding(rules::specs::View::way_of))]
 fn is_end(body: &[u32; 2560], i: usize) -> bool
     ensures { (N : List ℕ) → result ≡ is_end (stmt_from N body.now i) }
 {
@@ -665,6 +690,7 @@ fn is_end(body: &[u32; 2560], i: usize) -> bool
 }
 
 // 13: the last line of the file is neither `goto` nor `return`.
+#[tactic(auto, using(crate::proofs::Laws::last_is, crate::proofs::Laws::no_last, program::proofs::Laws::lines_small, program::proofs::Laws::rows_small, program::proofs::Laws::vars_small), unfolding(rules::specs::Body::ends, rules::specs::View::program))]
 pub fn ended(size: &[u32; 6], body: &[u32; 2560]) -> Answer
     ensures { (R D L N : List ℕ) → result ≡ ends (program (tables_of size.now N R D L body.now)) }
 {

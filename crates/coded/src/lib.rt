@@ -1,4 +1,6 @@
 // An environment as numbers: three for each variable, as a label's stand in their table. So it is lent to a walk, which need not copy it.
+#![tactic(auto)]
+
 ghost use Rattle.std.specs.Prelude.{◌≡◌, ℕ, get_or};
 ghost use Rattle.rules.specs.Program.{no_entry};
 ghost use Rattle.rules.specs.Environments.{with_entry};
@@ -7,6 +9,7 @@ ghost use Rattle.coded.specs.Coded.{env_of, put_codes};
 use rules::{Boxed, Entry, Env, Offset, Tag};
 
 // The entry of variable v. Past 32 variables it is that of three zeros.
+#[tactic(auto, using(crate::proofs::Laws::read_in, crate::proofs::Laws::read_past, crate::proofs::Laws::zeros))]
 pub fn entry_in(codes: &[u64; 96], v: usize) -> Entry
     ensures { (n : ℕ) → result ≡ get_or (env_of codes.now n).entries v no_entry }
 {
@@ -19,6 +22,7 @@ pub fn entry_in(codes: &[u64; 96], v: usize) -> Entry
 }
 
 // The environment of `count` variables.
+#[tactic(auto, using(program::proofs::Places::entered_all, program::proofs::Places::entered_end, program::proofs::Places::entered_step, crate::proofs::Laws::entry_of_lem), unfolding(crate::specs::Coded::env_of))]
 pub fn env_of(codes: &[u64; 96], count: usize) -> Env
     ensures { result ≡ env_of codes.now count }
 {
@@ -41,6 +45,7 @@ pub fn env_of(codes: &[u64; 96], count: usize) -> Env
 }
 
 // Variable v takes an entry. A variable past 32 has none.
+#[tactic(auto, using(table::proofs::Laws::clamped, crate::proofs::Laws::put_past, crate::proofs::Laws::env_put, crate::proofs::Small::small), unfolding(crate::specs::Coded::put_codes))]
 pub fn put_entry(codes: &mut [u64; 96], v: usize, e: Entry)
     ensures codes_after { codes.new ≡ put_codes codes.old v e }
     ensures by_index { (n : ℕ) → env_of codes.new n ≡ with_entry (env_of codes.old n) v e }

@@ -1,5 +1,7 @@
 // What an expression gives in the machine, over the tables of a program and of a store.
 // Operands are evaluated left to right, each with the node after it; then the form itself. Any numbers in the tables are answered.
+#![tactic(auto)]
+
 ghost use Rattle.std.specs.Prelude.{◌≡◌, true, List, ℕ, ◌/◌, ◌%◌, ◌<◌, pos, ◌+ℤ◌, length, get_or};
 ghost use Rattle.rules.specs.Program.{Rows};
 ghost use Rattle.rules.specs.View.{rows_from, vars_from, form_of};
@@ -21,6 +23,7 @@ pub struct Gave {
 // ---- arithmetic, `val` and `int`
 
 // The first operand is a C int; the second must be one too.
+#[tactic(auto, unfolding(rules::specs::Machine::ev_arith))]
 fn int_arith(op: Op, a: Num, y: Given) -> Given
     ensures { result ≡ ev_arith op (Given.Has (Datum.Int a)) y }
 {
@@ -34,6 +37,7 @@ fn int_arith(op: Op, a: Num, y: Given) -> Given
     }
 }
 
+#[tactic(auto, unfolding(rules::specs::Machine::ev_arith))]
 fn ev_arith(op: Op, x: Given, y: Given) -> Given
     ensures { result ≡ ev_arith op x y }
 {
@@ -48,6 +52,7 @@ fn ev_arith(op: Op, x: Given, y: Given) -> Given
 }
 
 // The row of `val` must be there; what stands in it plays no part.
+#[tactic(auto, unfolding(rules::specs::Machine::ev_val))]
 fn ev_val(size: &[u32; 6], r: usize, x: Given) -> Given
     ensures { (R : List ℕ) → result ≡ ev_val (rows_from size.now R) r x }
 {
@@ -67,6 +72,7 @@ fn ev_val(size: &[u32; 6], r: usize, x: Given) -> Given
     }
 }
 
+#[tactic(auto, unfolding(rules::specs::Machine::ev_int))]
 fn ev_int(x: Given) -> Given
     ensures { result ≡ ev_int x }
 {
@@ -83,6 +89,7 @@ fn ev_int(x: Given) -> Given
 // ---- `fetch` and `step`
 
 // Outside the block there is no cell, and nothing is given.
+#[tactic(auto, using(crate::proofs::Laws::fetch_is), unfolding(rules::specs::Machine::ev_fetch))]
 fn ev_fetch(store: &[u32; 2], heads: &[u32; 768], cells: &[u64; 4352], x: Given) -> Given
     ensures { result ≡ ev_fetch (store_of store.now heads.now cells.now) x }
 {
@@ -97,6 +104,7 @@ fn ev_fetch(store: &[u32; 2], heads: &[u32; 768], cells: &[u64; 4352], x: Given)
 }
 
 // The place at offset o of block b, moved by m over whole numbers. Here alone an amount is added to an offset.
+#[tactic(auto, using(crate::proofs::Laws::lands, crate::proofs::Laws::leaves))]
 pub fn moved(store: &[u32; 2], heads: &[u32; 768], b: usize, o: usize, m: Num) -> Given
     ensures { (C : List ℕ) → result ≡ moved (store_of store.now heads.now C) b (pos o +ℤ m.n) }
 {
@@ -107,6 +115,7 @@ pub fn moved(store: &[u32; 2], heads: &[u32; 768], b: usize, o: usize, m: Num) -
 }
 
 // The first operand is a place; the amount must be a C int.
+#[tactic(auto, unfolding(rules::specs::Machine::ev_step))]
 fn place_step(store: &[u32; 2], heads: &[u32; 768], b: usize, o: usize, y: Given) -> Given
     ensures { (C : List ℕ) → result ≡ ev_step (store_of store.now heads.now C) (Given.Has (Datum.Place b o)) y }
 {
@@ -120,6 +129,7 @@ fn place_step(store: &[u32; 2], heads: &[u32; 768], b: usize, o: usize, y: Given
     }
 }
 
+#[tactic(auto, unfolding(rules::specs::Machine::ev_step))]
 fn ev_step(store: &[u32; 2], heads: &[u32; 768], x: Given, y: Given) -> Given
     ensures { (C : List ℕ) → result ≡ ev_step (store_of store.now heads.now C) x y }
 {
@@ -145,6 +155,7 @@ pub fn var_given(size: &[u32; 6], vals: &[u64; 32], v: usize) -> Given
 // The forms by how many operands they have, with what the operands give.
 
 // A number or a variable; no other operation that has no operands gives anything.
+#[tactic(auto, using(program::proofs::Walk::leaf_rest), unfolding(rules::specs::View::form_of, crate::specs::Walk::form))]
 fn leaf(size: &[u32; 6], vals: &[u64; 32], op: u32, a: u32) -> Given
     requires { arity (form_of op) ≡ 0 }
     ensures { (ρ : Rows) (σ : Store) (D : List ℕ) → result ≡ form ρ σ (vals_of (length (vars_from size.now D)) vals.now) (form_of op) a Given.Stuck Given.Stuck }
@@ -156,6 +167,7 @@ fn leaf(size: &[u32; 6], vals: &[u64; 32], op: u32, a: u32) -> Given
     }
 }
 
+#[tactic(auto, using(program::proofs::Walk::one_rest), unfolding(rules::specs::View::form_of, crate::specs::Walk::form))]
 fn one_operand(
     size: &[u32; 6],
     store: &[u32; 2],
@@ -191,6 +203,7 @@ fn int_only(x: Given) -> Given
 }
 
 // Arithmetic, whose operations are those past `step`; of the first operand the int alone is given.
+#[tactic(auto, using(program::proofs::Walk::two_rest, program::proofs::Walk::past_six, crate::specs::Walk::arith_ints), unfolding(rules::specs::View::form_of, crate::specs::Walk::form))]
 fn two_ints(op: u32, x: Given, y: Given) -> Given
     requires { (6 < op) × (arity (form_of op) ≡ 0 → ⊥) }
     ensures { (ρ : Rows) (σ : Store) (δ : List Given) (a : ℕ) (v : Given) → x ≡ int_only v → result ≡ form ρ σ δ (form_of op) a v y }
@@ -223,6 +236,7 @@ fn leaf_at(size: &[u32; 6], nodes: &[u64; 4096], vals: &[u64; 32], at: usize) ->
 
 // What an operand gives. Most operands are numbers and variables: these are answered in place, without a call that goes deeper.
 #[cycle(operand_walk)]
+#[tactic(auto, using(program::proofs::Walk::past_six, program::proofs::Walk::is_step, program::proofs::Walk::is_within, program::proofs::Walk::ends_beyond, program::proofs::Walk::ends_leaf, program::proofs::Walk::ends_one, program::proofs::Walk::ends_two, program::proofs::Walk::leaf_there, program::proofs::Walk::ends_there, crate::proofs::Laws::folds, crate::proofs::Laws::step_form, crate::proofs::Laws::tree_of_lem, crate::proofs::Laws::after_of_lem), unfolding(crate::specs::Walk::gave_at, rules::specs::Machine::eval))]
 fn operand(
     size: &[u32; 6],
     nodes: &[u64; 4096],
@@ -245,6 +259,7 @@ fn operand(
 // What the expression at a node gives. Past the depth and past the last node nothing is there, and it is stuck. Arithmetic is told from `step` before the second operand is evaluated: of the first no more than its int is then kept.
 // What every expression needs comes first among the parameters, and is handed on in registers.
 #[cycle(operand_walk)]
+#[tactic(auto, using(program::proofs::Walk::past_six, program::proofs::Walk::is_step, program::proofs::Walk::is_within, program::proofs::Walk::ends_beyond, program::proofs::Walk::ends_leaf, program::proofs::Walk::ends_one, program::proofs::Walk::ends_two, program::proofs::Walk::leaf_there, program::proofs::Walk::ends_there, crate::proofs::Laws::folds, crate::proofs::Laws::step_form, crate::proofs::Laws::tree_of_lem, crate::proofs::Laws::after_of_lem), unfolding(crate::specs::Walk::gave_at, rules::specs::Machine::eval))]
 fn walk(
     size: &[u32; 6],
     nodes: &[u64; 4096],
@@ -286,6 +301,7 @@ fn walk(
 }
 
 // What the expression of a line gives, at any node of the table, and the node after it: a number or a variable in place too, any other by the walk.
+#[tactic(auto, using(program::proofs::Walk::leaf_there, program::proofs::Walk::ends_there, crate::proofs::Laws::folds), unfolding(crate::specs::Walk::gave_at))]
 pub fn given_at(
     size: &[u32; 6],
     nodes: &[u64; 4096],

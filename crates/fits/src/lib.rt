@@ -1,6 +1,8 @@
 // Answers 25 to 27 over the tables of a program and of a store, whatever they hold: a block with a tag or a number of cells that its row does not have,
 // a cell or an argument that does not fit.
 // Cells and arguments are held to `any,0,any` alone. A function that needs few of the tables says what holds for all the others.
+#![tactic(auto)]
+
 ghost use Rattle.std.specs.Prelude.{◌≡◌, List, map, ℕ, ◌<◌, length};
 ghost use Rattle.rules.specs.Answers.{first};
 ghost use Rattle.rules.specs.Program.{loosest, kind_at};
@@ -17,6 +19,7 @@ use rules::{Answer, Datum, Given, Kind, Num};
 // ---- data
 
 // An immediate, held to the constants of row r.
+#[tactic(auto, unfolding(rules::specs::Fits::fits_imm))]
 fn fits_imm(size: &[u32; 6], rows: &[u32; 17536], r: usize, n: Num) -> bool
     ensures { result ≡ fits_imm (rows_from size.now rows.now) r loosest n }
 {
@@ -25,6 +28,7 @@ fn fits_imm(size: &[u32; 6], rows: &[u32; 17536], r: usize, n: Num) -> bool
 }
 
 // Offset o of block b, where a value of row r is asked for.
+#[tactic(auto, using(crate::proofs::Laws::place_apart, crate::proofs::Laws::place_in, crate::proofs::Laws::place_past))]
 fn fits_place(store: &[u32; 2], heads: &[u32; 768], r: usize, b: usize, o: usize) -> bool
     ensures { (C : List ℕ) → result ≡ fits_place (store_of store.now heads.now C) r loosest b o }
 {
@@ -40,6 +44,7 @@ fn fits_place(store: &[u32; 2], heads: &[u32; 768], r: usize, b: usize, o: usize
     }
 }
 
+#[tactic(auto, unfolding(rules::specs::Fits::fits))]
 fn given_fits(
     size: &[u32; 6],
     rows: &[u32; 17536],
@@ -70,6 +75,7 @@ fn given_fits(
 // ---- blocks
 
 // Block k has a tag of its row, and as many cells as that product has fields.
+#[tactic(auto, using(crate::proofs::Laws::shape_cells, crate::proofs::Laws::shape_tag))]
 fn right_shape(
     size: &[u32; 6],
     rows: &[u32; 17536],
@@ -92,6 +98,7 @@ fn right_shape(
 }
 
 // Every cell of block k fits the row of its field.
+#[tactic(auto, using(crate::proofs::Laws::cells_done, crate::proofs::Laws::cells_no, crate::proofs::Laws::cells_on_lem))]
 fn cells_fit(
     size: &[u32; 6],
     rows: &[u32; 17536],
@@ -118,6 +125,7 @@ fn cells_fit(
     true
 }
 
+#[tactic(auto, using(crate::proofs::Laws::block_cells, crate::proofs::Laws::block_right, crate::proofs::Laws::block_shape))]
 fn block_number(
     size: &[u32; 6],
     rows: &[u32; 17536],
@@ -140,6 +148,7 @@ fn block_number(
 }
 
 // The block lines follow line 1.
+#[tactic(auto, using(storage::proofs::Laws::blocks_small, table::proofs::Passes::lines_done, table::proofs::Passes::lines_no, table::proofs::Passes::lines_on))]
 fn fit_blocks(
     size: &[u32; 6],
     rows: &[u32; 17536],
@@ -185,6 +194,7 @@ fn arg_fits(
 }
 
 // Each parameter has a line, the first of them `line`; a local has none.
+#[tactic(auto, using(crate::proofs::Laws::args_done, crate::proofs::Laws::args_local, crate::proofs::Laws::args_no, crate::proofs::Laws::args_on, program::proofs::Laws::vars_small))]
 fn fit_args(
     size: &[u32; 6],
     rows: &[u32; 17536],
@@ -219,6 +229,7 @@ fn fit_args(
 }
 
 // The first block line or argument line that is refused, `run=` being line 1.
+#[tactic(auto, using(crate::proofs::Laws::fits_args, crate::proofs::Laws::fits_blocks, storage::proofs::Laws::blocks_small), unfolding(rules::specs::View::program))]
 pub fn fitted(
     size: &[u32; 6],
     rows: &[u32; 17536],

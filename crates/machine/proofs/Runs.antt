@@ -35,6 +35,11 @@ budget t = get_or t.size 0 0
 act_rests : (a : Act) (t : MTables) → Rests (says_act a) → apply_t a t ≡ t
 unfolding apply_t
 act_rests D.Stuck t h = refl
+act_rests D.Fall t h = elim h [ ]
+act_rests (D.Jump _) t h = elim h [ ]
+act_rests (D.SetVar _ _) t h = elim h [ ]
+act_rests (D.SetCell _ _ _) t h = elim h [ ]
+act_rests (D.Give _) t h = elim h [ ]
 
 act_counts : (a : Act) (t : MTables) → Goes (says_act a) → (apply_t a t).steps ≡ t.steps + 1
 unfolding apply_t
@@ -43,6 +48,7 @@ act_counts (D.Jump i) t h = refl
 act_counts (D.SetVar v d) t h = refl
 act_counts (D.SetCell b o d) t h = refl
 act_counts (D.Give d) t h = refl
+act_counts D.Stuck t h = elim h [ ]
 
 module _ (P : Prog) (t : MTables) where
   rests_by : (b : Bool) (g : Given) → Rests (when b (λ _. T.Spent) (λ _. says_from P (machine P t) g)) → when b (λ _. t) (λ _. step_from_t P t g) ≡ t
@@ -72,6 +78,8 @@ module _ (P : Prog) (t : MTables) where
     goes_by : (b : Bool) (g : Given) → Goes (when b (λ _. T.Spent) (λ _. says_from P (machine P t) g)) → (b ≡ false) × ((step_from_t P t g).steps ≡ t.steps + 1)
     unfolding machine
     goes_by false Stuck h = (refl, act_counts (decide P (store_of t.size t.heads t.cells) _ t.at) t h)
+    goes_by false (Has _) h = elim h [ ]
+    goes_by true g h = elim h [ ]
 
     gone : (spent t ≡ false) × ((step_t P t).steps ≡ t.steps + 1)
     unfolding says_within says step_t machine

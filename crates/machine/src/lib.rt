@@ -1,4 +1,6 @@
 // A machine that is lent, and its steps: `step` takes the lent machine apart, has its parts moved, and puts it together again.
+#![tactic(auto)]
+
 ghost use Rattle.std.specs.Prelude.{◌≡◌};
 ghost use Rattle.moves.specs.Moves.{parts, Moves};
 ghost use Rattle.machine.specs.Steps.{Steps, Runs};

@@ -1,4 +1,6 @@
 // A step of a machine in parts. What a line does is decided over tables, and then done: only here are the two tables altered that a step can alter.
+#![tactic(auto)]
+
 ghost use Rattle.std.specs.Prelude.{◌≡◌, List, ℕ, ◌+◌, ◌<◌};
 ghost use Rattle.rules.specs.declared.Stepped.TheVariants as S;
 ghost use Rattle.moves.specs.Moves.{Words, parts, Moves, Ready, Applies};
@@ -28,6 +30,7 @@ fn moved_to(at: usize, steps: u32, value: u64) -> Moved
 }
 
 // What a line decides is done here, and nowhere else are the cells or the variables altered.
+#[tactic(auto, using(crate::proofs::Applied::turned, crate::proofs::Applied::stuck, crate::proofs::Applied::fell, crate::proofs::Applied::jumped, crate::proofs::Applied::var_set, crate::proofs::Applied::cell_set, crate::proofs::Applied::given))]
 fn apply(
     act: Act,
     cells: &mut [u64; 4352],
@@ -72,6 +75,7 @@ fn words(t: &[u64]) -> u32
 }
 
 // A machine whose budget is used up, or that has returned, stays as it is; any other does what its line decides.
+#[tactic(auto, using(crate::proofs::Held::ready, crate::proofs::Laws::used_up, crate::proofs::Laws::stands, crate::proofs::Laws::acts))]
 pub fn move_at(
     size: &[u32; 6],
     nodes: &[u64; 4096],

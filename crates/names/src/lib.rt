@@ -1,5 +1,7 @@
 // Answers 4 and 5 over the tables of a program, whatever they hold: a row, variable or label named that does not exist, and an int variable's entry that is not `any,0,T`.
 // A function that needs few of the tables says what holds of the program for all the others.
+#![tactic(auto)]
+
 ghost use Rattle.std.specs.Prelude.{◌≡◌, Bool, ◌&&◌, List, [], map, ℕ, ◌<◌, get_or};
 ghost use Rattle.rules.specs.When.{need};
 ghost use Rattle.rules.specs.Answers.{first};
@@ -28,6 +30,7 @@ fn needed(n: u32, b: bool, x: u32) -> u32
 
 // ---- kinds and rows
 
+#[tactic(auto, unfolding(rules::specs::Names::kind_there, rules::specs::View::program))]
 fn kind_there(size: &[u32; 6], k: Kind) -> bool
     ensures { (N R D L B : List ℕ) → result ≡ kind_there (program (tables_of size.now N R D L B)) k }
 {
@@ -37,6 +40,7 @@ fn kind_there(size: &[u32; 6], k: Kind) -> bool
     }
 }
 
+#[tactic(auto, unfolding(rules::specs::Names::name_kind))]
 fn name_kind(size: &[u32; 6], k: Kind) -> u32
     ensures { (N R D L B : List ℕ) → result ≡ name_kind (program (tables_of size.now N R D L B)) k }
 {
@@ -61,6 +65,7 @@ fn fields_there(size: &[u32; 6], rows: &[u32; 17536], r: usize, t: usize) -> boo
     true
 }
 
+#[tactic(auto, using(crate::proofs::Laws::products_done, crate::proofs::Laws::products_left, table::proofs::Passes::all_no, table::proofs::Passes::all_on), unfolding(rules::specs::Program::prods_of))]
 fn products_there(size: &[u32; 6], rows: &[u32; 17536], r: usize) -> bool
     ensures { (N D L B : List ℕ) → result ≡ products_there (program (tables_of size.now N rows.now D L B)) (row_at (rows_from size.now rows.now) r).products }
 {
@@ -78,6 +83,7 @@ fn products_there(size: &[u32; 6], rows: &[u32; 17536], r: usize) -> bool
 
 // ---- labels
 
+#[tactic(auto, unfolding(rules::specs::Names::entry_suits))]
 fn entry_suits(k: Kind, e: Entry) -> bool
     ensures { result ≡ entry_suits k e }
 {
@@ -94,6 +100,7 @@ fn entry_suits(k: Kind, e: Entry) -> bool
 }
 
 // A label that is absent has no entries.
+#[tactic(auto, using(crate::proofs::Laws::suits_absent, crate::proofs::Laws::suits_done, crate::proofs::Laws::suits_left, table::proofs::Passes::all_no, table::proofs::Passes::all_on))]
 fn entries_suit(size: &[u32; 6], vars: &[u32; 96], labels: &[u64; 6208], l: usize) -> bool
     ensures { result ≡ entries_suit (vars_from size.now vars.now) (label_at (labels_from size.now labels.now) l).entries }
 {
@@ -118,6 +125,7 @@ fn entries_suit(size: &[u32; 6], vars: &[u32; 96], labels: &[u64; 6208], l: usiz
 // ---- expressions
 
 // Whether what a number or a variable names exists; no other operation without operands is anything.
+#[tactic(auto, using(program::proofs::Walk::leaf_rest), unfolding(rules::specs::View::form_of, rules::specs::View::program))]
 fn leaf_there(size: &[u32; 6], op: u32, a: usize) -> bool
     requires { arity (form_of op) ≡ 0 }
     ensures { (N R D L B : List ℕ) (x y : Bool) → result ≡ form_there (program (tables_of size.now N R D L B)) (form_of op) a x y }
@@ -130,6 +138,7 @@ fn leaf_there(size: &[u32; 6], op: u32, a: usize) -> bool
 }
 
 // Whether what a form with one operand names itself exists: of these only `val` names something.
+#[tactic(auto, using(program::proofs::Walk::one_rest), unfolding(rules::specs::View::form_of, rules::specs::View::program))]
 fn one_there(size: &[u32; 6], op: u32, a: usize) -> bool
     requires { arity (form_of op) ≡ 1 }
     ensures { (N R D L B : List ℕ) (x y : Bool) → (result && x) ≡ form_there (program (tables_of size.now N R D L B)) (form_of op) a x y }
@@ -143,6 +152,7 @@ fn one_there(size: &[u32; 6], op: u32, a: usize) -> bool
 }
 
 // One more than the node after a tree that names only what exists, and 0 for any other: so a walk gives one number.
+#[tactic(auto, using(crate::proofs::Laws::at_past, crate::proofs::Laws::at_zero, crate::proofs::Laws::leaf_is, crate::proofs::Laws::one_is, crate::proofs::Laws::one_not, crate::proofs::Laws::two_none, crate::proofs::Laws::two_some))]
 fn there_at(size: &[u32; 6], nodes: &[u64; 4096], depth: usize, at: usize) -> usize
     ensures { (R D L B : List ℕ) → result ≡ there_at (program (tables_of size.now nodes.now R D L B)) nodes.now depth at }
 {
@@ -176,6 +186,7 @@ fn there_at(size: &[u32; 6], nodes: &[u64; 4096], depth: usize, at: usize) -> us
     there_at(size, nodes, depth - 1, second)
 }
 
+#[tactic(auto, using(crate::proofs::Laws::tree_test))]
 fn tree_there(size: &[u32; 6], nodes: &[u64; 4096], trees: bool, k: usize) -> bool
     ensures { (R D L B : List ℕ) → result ≡ tree_named trees (program (tables_of size.now nodes.now R D L B)) (tree_of (tree_at nodes.now 16 k)) }
 {
@@ -187,6 +198,7 @@ fn tree_there(size: &[u32; 6], nodes: &[u64; 4096], trees: bool, k: usize) -> bo
 }
 
 // The two trees of a `put`: the second begins after the first.
+#[tactic(auto, using(crate::proofs::Laws::tree_not, crate::proofs::Laws::tree_is))]
 fn trees_there(size: &[u32; 6], nodes: &[u64; 4096], trees: bool, k: usize) -> bool
     ensures { (R D L B : List ℕ) → result ≡ (tree_named trees (program (tables_of size.now nodes.now R D L B)) (tree_of (tree_at nodes.now 16 k)) && tree_named trees (program (tables_of size.now nodes.now R D L B)) (tree_of (tree_at nodes.now 16 (after_of (tree_at nodes.now 16 k))))) }
 {
@@ -205,6 +217,7 @@ fn trees_there(size: &[u32; 6], nodes: &[u64; 4096], trees: bool, k: usize) -> b
 // ---- lines
 
 // The label and the variable are read whether the line's kind has a use for them or not: they are something in every table. A tree is walked only where the line has one and trees are looked at.
+#[tactic(auto, using(crate::proofs::Laws::way_none, program::proofs::Walk::with_one_lem, program::proofs::Walk::with_two_lem), unfolding(rules::specs::View::way_of, rules::specs::View::stmt_of, crate::specs::Trees::stmt_named, rules::specs::View::program))]
 fn stmt_there(
     size: &[u32; 6],
     nodes: &[u64; 4096],
@@ -236,6 +249,7 @@ fn stmt_there(
     }
 }
 
+#[tactic(auto, using(crate::proofs::Laws::other_line), unfolding(rules::specs::View::way_of, rules::specs::View::stmt_of, rules::specs::View::program))]
 fn line_suits(size: &[u32; 6], vars: &[u32; 96], labels: &[u64; 6208], s: Stored) -> bool
     ensures { (N R B : List ℕ) → result ≡ label_suits (program (tables_of size.now N R vars.now labels.now B)) (stmt_of N (way_of s.kind) s.label s.variable s.word s.node) }
 {
@@ -248,6 +262,7 @@ fn line_suits(size: &[u32; 6], vars: &[u32; 96], labels: &[u64; 6208], s: Stored
     }
 }
 
+#[tactic(auto, using(crate::proofs::Laws::stored_line), unfolding(crate::specs::Trees::line_named))]
 fn name_line(
     size: &[u32; 6],
     nodes: &[u64; 4096],
@@ -267,6 +282,7 @@ fn name_line(
 
 // ---- one loop for each part of the file; `line` is the part's first line
 
+#[tactic(auto, using(program::proofs::Laws::rows_small, table::proofs::Passes::lines_done, table::proofs::Passes::lines_no, table::proofs::Passes::lines_on), unfolding(rules::specs::Names::name_row, rules::specs::Program::row_at))]
 fn name_rows(size: &[u32; 6], rows: &[u32; 17536], line: usize) -> Answer
     requires { line < 1000 }
     ensures { (N D L B : List ℕ) → result ≡ first line (map (name_row (program (tables_of size.now N rows.now D L B))) (rows_from size.now rows.now)) }
@@ -287,6 +303,7 @@ fn name_rows(size: &[u32; 6], rows: &[u32; 17536], line: usize) -> Answer
     Answer { number: 0, line: 0 }
 }
 
+#[tactic(auto, using(program::proofs::Laws::vars_small, table::proofs::Passes::lines_done, table::proofs::Passes::lines_no, table::proofs::Passes::lines_on), unfolding(rules::specs::Names::name_var, rules::specs::Program::kind_at))]
 fn name_vars(size: &[u32; 6], vars: &[u32; 96], line: usize) -> Answer
     requires { line < 1000 }
     ensures { (N R L B : List ℕ) → result ≡ first line (map (name_var (program (tables_of size.now N R vars.now L B))) (vars_from size.now vars.now)) }
@@ -307,6 +324,7 @@ fn name_vars(size: &[u32; 6], vars: &[u32; 96], line: usize) -> Answer
     Answer { number: 0, line: 0 }
 }
 
+#[tactic(auto, using(crate::proofs::Laws::line_there, program::proofs::Laws::lines_small, rules::specs::Program::bad_s, table::proofs::Passes::lines_done, table::proofs::Passes::lines_no, table::proofs::Passes::lines_on))]
 fn name_body(
     size: &[u32; 6],
     nodes: &[u64; 4096],
@@ -335,6 +353,7 @@ fn name_body(
 }
 
 // The first line that is refused, `ret` being line 1. Without `trees` what expressions name is not looked at: for a caller who knows that it exists.
+#[tactic(auto, using(crate::proofs::Laws::names_body, crate::proofs::Laws::names_rows, crate::proofs::Laws::names_top, crate::proofs::Laws::names_vars, program::proofs::Laws::rows_small, program::proofs::Laws::vars_small), unfolding(rules::specs::View::program))]
 pub fn named(
     size: &[u32; 6],
     nodes: &[u64; 4096],

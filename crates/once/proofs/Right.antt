@@ -40,6 +40,7 @@ module _ (s : List ℕ) (c : Count) (t : Tables) where
 
   line_limited : (kind l v w : ℕ) (e : Out) → Limited e → Refuses (expr_line c t kind l v w e)
   line_limited kind l v w (out F.Limit M) h = tt
+  line_limited kind l v w (out (F.Got _ _) M) h = elim h [ ]
 
   last_told : (kind l v w at : ℕ) (o e : Out) → Read s at o e → Told (last_once s c.lines c.nodes kind l v w t.body o) (expr_shape s at) (expr_line c t kind l v w e)
   unfolding last_once
@@ -75,6 +76,7 @@ module _ (s : List ℕ) (c : Count) (t : Tables) where
 
   two_limited : (e : Out) → Limited e → Refuses (fill_put_two s c t e)
   two_limited (out F.Limit M) h = tt
+  two_limited (out (F.Got _ _) M) h = elim h [ ]
 
   two_told : (at : ℕ) (o e : Out) → Read s at o e → Told (two_once s c.lines c.nodes t.body o) (over (expr_shape s at) put_shape) (fill_put_two s c t e)
   unfolding two_once byte_is

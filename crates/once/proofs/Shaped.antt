@@ -23,6 +23,7 @@ Limited (out F.Limit N) = Unit
 
 onward_limited : (e : Out) (go : ℕ → ℕ → List ℕ → Out) → Limited e → Limited (onward e go)
 onward_limited (out F.Limit N) go h = tt
+onward_limited (out (F.Got _ _) N) go h = elim h [ ]
 
 module _ (s : List ℕ) where
   -- the shape from n on, where so many expressions are still to come

@@ -1,5 +1,7 @@
 // A body line with expressions, read once: its shape and its limits are tested while its nodes are written.
 // If any test fails, the line is refused, and whether by its shape (2) or by a limit (3) is for the caller to find out.
+#![tactic(auto)]
+
 ghost use Rattle.std.specs.Prelude.{◌≡◌};
 ghost use Rattle.rules.specs.Text.Fill as fills;
 ghost use Rattle.once.specs.Once.{operands_once, expr_once, once, last_once, set_once, if_once, rest_once, put_once, line_once};
@@ -68,6 +70,7 @@ fn operands(
 // ---- lines. The line's first node is `node`; a line feed stands after its last expression
 
 // The last expression stands at `at`.
+#[tactic(auto, unfolding(crate::specs::Once::last_once))]
 fn last_once(
     s: &[u8],
     line: usize,
@@ -97,6 +100,7 @@ fn last_once(
 }
 
 // `set=V E`
+#[tactic(auto, unfolding(crate::specs::Once::set_once, crate::specs::Once::after_mark))]
 fn set_once(
     s: &[u8],
     line: usize,
@@ -120,6 +124,7 @@ fn set_once(
 }
 
 // `if=L E`
+#[tactic(auto, unfolding(crate::specs::Once::if_once, crate::specs::Once::after_mark))]
 fn if_once(
     s: &[u8],
     line: usize,
@@ -143,6 +148,7 @@ fn if_once(
 }
 
 // N, which stands at n, and the second E of `put=E N E`.
+#[tactic(auto, unfolding(crate::specs::Once::rest_once, crate::specs::Once::after_mark))]
 fn put_rest(
     s: &[u8],
     line: usize,
@@ -166,6 +172,7 @@ fn put_rest(
 }
 
 // `put=E N E`
+#[tactic(auto, unfolding(crate::specs::Once::put_once, crate::specs::Once::two_once))]
 fn put_once(
     s: &[u8],
     line: usize,
@@ -189,6 +196,7 @@ fn put_once(
 }
 
 // A line from the place after the key of number k on: the place of its line feed, and the next free node.
+#[tactic(auto, using(crate::proofs::Keys::other_keys, crate::proofs::Ways::no_key_lem), unfolding(crate::specs::Once::line_once, crate::specs::Once::key_once, rules::specs::Text::Shape::key_of))]
 pub fn line_once(
     s: &[u8],
     k: u64,

@@ -1,4 +1,6 @@
 // The tables of a program, read and written. Each function is for every argument: past a table is nothing, and a place past it writes nothing.
+#![tactic(auto)]
+
 ghost use Rattle.std.specs.Prelude.{◌≡◌, List, [], ◌∷◌, ℕ, ◌+◌, ◌-◌, ◌*◌, ◌/◌, ◌%◌, ◌<◌, length, get_or, set, replicate};
 ghost use Rattle.rules.specs.Program.{psi_of, prods_of, fields_of, field_of, kind_at, label_at, row_there, var_there, label_there, no_entry};
 ghost use Rattle.rules.specs.Environments.{no_var, covers_env};
@@ -21,7 +23,7 @@ const LABEL_WIDTH: usize = 97;
 const LINE_WIDTH: usize = 5;
 
 // A body line as it stands: what its kind has no use for is 0.
-#[derive(Drop)]
+#[derive(Clone, Copy)]
 pub struct Stored {
     pub kind: u32,
     pub label: u32,
@@ -32,24 +34,28 @@ pub struct Stored {
 
 // ---- how many there are
 
+#[tactic(auto, using(crate::proofs::Laws::row_count))]
 pub fn row_count(size: &[u32; 6]) -> usize
     ensures { (R : List ℕ) → result ≡ length (rows_from size.now R) }
 {
     table::up_to(Limits::ROWS, table::at32(size, 1))
 }
 
+#[tactic(auto, using(crate::proofs::Laws::var_count))]
 pub fn var_count(size: &[u32; 6]) -> usize
     ensures { (D : List ℕ) → result ≡ length (vars_from size.now D) }
 {
     table::up_to(Limits::VARIABLES, table::at32(size, 2))
 }
 
+#[tactic(auto, using(crate::proofs::Laws::label_count))]
 pub fn label_count(size: &[u32; 6]) -> usize
     ensures { (L : List ℕ) → result ≡ length (labels_from size.now L) }
 {
     table::up_to(Limits::LABELS, table::at32(size, 3))
 }
 
+#[tactic(auto, using(crate::proofs::Laws::line_count))]
 pub fn line_count(size: &[u32; 6]) -> usize
     ensures { (N B : List ℕ) → result ≡ length (body_from size.now N B) }
 {
@@ -79,6 +85,7 @@ fn row_cell(rows: &[u32; 17536], r: usize, k: usize) -> u32
     table::at32(rows, i)
 }
 
+#[tactic(auto, unfolding(rules::specs::View::psi_code))]
 fn psi_code(c: u32) -> Psi
     ensures { result ≡ psi_code c }
 {
@@ -89,6 +96,7 @@ fn psi_code(c: u32) -> Psi
     }
 }
 
+#[tactic(auto, using(rules::proofs::Sound::Expr::psi_absent, crate::proofs::Laws::psi_in, table::proofs::Laws::above, table::proofs::Laws::below))]
 pub fn psi_of(size: &[u32; 6], rows: &[u32; 17536], r: usize) -> Psi
     ensures { result ≡ psi_of (rows_from size.now rows.now) r }
 {
@@ -100,6 +108,7 @@ pub fn psi_of(size: &[u32; 6], rows: &[u32; 17536], r: usize) -> Psi
     }
 }
 
+#[tactic(auto, using(crate::proofs::Laws::prods_in, crate::proofs::Laws::prods_out, table::proofs::Laws::above, table::proofs::Laws::below))]
 pub fn prods_of(size: &[u32; 6], rows: &[u32; 17536], r: usize) -> usize
     ensures { result ≡ prods_of (rows_from size.now rows.now) r }
 {
@@ -111,6 +120,7 @@ pub fn prods_of(size: &[u32; 6], rows: &[u32; 17536], r: usize) -> usize
     }
 }
 
+#[tactic(auto, using(crate::proofs::Laws::fields_in, crate::proofs::Laws::fields_out, crate::proofs::Laws::prods_small, table::proofs::Laws::above, table::proofs::Laws::below))]
 pub fn fields_of(size: &[u32; 6], rows: &[u32; 17536], r: usize, t: usize) -> usize
     ensures { result ≡ fields_of (rows_from size.now rows.now) r t }
 {
@@ -130,6 +140,7 @@ fn field_cell(rows: &[u32; 17536], r: usize, t: usize, o: usize) -> u32
     row_cell(rows, r, 18 + t * 16 + o)
 }
 
+#[tactic(auto, using(crate::proofs::Laws::field_in, crate::proofs::Laws::field_out, crate::proofs::Laws::field_small, table::proofs::Laws::above, table::proofs::Laws::below))]
 pub fn field_of(size: &[u32; 6], rows: &[u32; 17536], r: usize, t: usize, o: usize) -> usize
     ensures { result ≡ field_of (rows_from size.now rows.now) r t o }
 {
@@ -152,6 +163,7 @@ fn var_cell(vars: &[u32; 96], v: usize, k: usize) -> u32
     table::at32(vars, i)
 }
 
+#[tactic(auto, unfolding(rules::specs::View::kind_code))]
 fn kind_code(c: u32) -> Kind
     ensures { result ≡ kind_code c }
 {
@@ -162,6 +174,7 @@ fn kind_code(c: u32) -> Kind
     }
 }
 
+#[tactic(auto, using(crate::proofs::Laws::kind_in, crate::proofs::Laws::kind_out, table::proofs::Laws::above, table::proofs::Laws::below))]
 pub fn kind_of(size: &[u32; 6], vars: &[u32; 96], v: usize) -> Kind
     ensures { result ≡ kind_at (vars_from size.now vars.now) v }
 {
@@ -173,6 +186,7 @@ pub fn kind_of(size: &[u32; 6], vars: &[u32; 96], v: usize) -> Kind
     }
 }
 
+#[tactic(auto, using(crate::proofs::Laws::var_in, crate::proofs::Laws::var_out, table::proofs::Laws::above, table::proofs::Laws::below), unfolding(rules::specs::View::var_from))]
 pub fn is_local(size: &[u32; 6], vars: &[u32; 96], v: usize) -> bool
     ensures { result ≡ (get_or (vars_from size.now vars.now) v no_var).is_local }
 {
@@ -184,6 +198,7 @@ pub fn is_local(size: &[u32; 6], vars: &[u32; 96], v: usize) -> bool
     }
 }
 
+#[tactic(auto, using(crate::proofs::Laws::var_in, crate::proofs::Laws::var_out, table::proofs::Laws::above, table::proofs::Laws::below), unfolding(rules::specs::View::var_from))]
 pub fn local_number(size: &[u32; 6], vars: &[u32; 96], v: usize) -> Num
     ensures { result ≡ (get_or (vars_from size.now vars.now) v no_var).number }
 {
@@ -213,6 +228,7 @@ fn label_cell(labels: &[u64; 6208], l: usize, k: usize) -> u64
 }
 
 // What stands for variable v in label l's place, whether that label is there or not.
+#[tactic(auto, unfolding(rules::specs::View::entry_from))]
 fn entry_at(labels: &[u64; 6208], l: usize, v: usize) -> Entry
     requires { v < 32 }
     ensures { result ≡ entry_from labels.now l v }
@@ -233,6 +249,7 @@ fn no_entry() -> Entry
     }
 }
 
+#[tactic(auto, using(crate::proofs::Laws::label_line_in, crate::proofs::Laws::label_out, table::proofs::Laws::above, table::proofs::Laws::below))]
 pub fn label_line(size: &[u32; 6], labels: &[u64; 6208], l: usize) -> usize
     ensures { result ≡ (label_at (labels_from size.now labels.now) l).line }
 {
@@ -245,6 +262,7 @@ pub fn label_line(size: &[u32; 6], labels: &[u64; 6208], l: usize) -> usize
     }
 }
 
+#[tactic(auto, using(crate::proofs::Laws::entry_in_lem, crate::proofs::Laws::entry_out, crate::proofs::Laws::entry_past, table::proofs::Laws::above, table::proofs::Laws::below))]
 pub fn label_entry(size: &[u32; 6], labels: &[u64; 6208], l: usize, v: usize) -> Entry
     ensures { result ≡ get_or (label_at (labels_from size.now labels.now) l).entries v no_entry }
 {
@@ -261,6 +279,7 @@ pub fn label_entry(size: &[u32; 6], labels: &[u64; 6208], l: usize, v: usize) ->
 }
 
 // 96 numbers side by side, all of them in the table or none: so the table's end is tested once and not for each of them.
+#[tactic(auto, using(rules::proofs::Laws::Lists::tab_ext, crate::proofs::Places::numbers_all, crate::proofs::Places::entered_end, crate::proofs::Places::entered_step), unfolding(rules::specs::View::tab))]
 fn side_by_side(t: &[u64], first: usize) -> [u64; 96]
     requires { Whole (length t.now) first }
     ensures { result ≡ tab 96 (λ k. get_or t.now (first + k) 0) }
@@ -278,6 +297,7 @@ fn side_by_side(t: &[u64], first: usize) -> [u64; 96]
 }
 
 // The numbers of label l's entries, as they stand after the kept line. Of a label that is absent, those in its place.
+#[tactic(auto, using(rules::proofs::Laws::Lists::tab_ext, table::proofs::Laws::clamped), unfolding(crate::specs::Labels::codes_from))]
 pub fn label_codes(labels: &[u64; 6208], l: usize) -> [u64; 96]
     ensures { result ≡ codes_from labels.now l }
 {
@@ -287,6 +307,7 @@ pub fn label_codes(labels: &[u64; 6208], l: usize) -> [u64; 96]
 
 // Whether label l's environment covers another, over as many variables as that one has. Past 32 both have the entry that covers itself.
 // Of a label that is absent, the environment that stands in its place.
+#[tactic(auto, using(crate::proofs::Covers::first_all, crate::proofs::Covers::first_more, crate::proofs::Covers::first_no, crate::proofs::Covers::first_past, rules::proofs::Laws::Lists::tab_in, rules::proofs::Laws::Lists::tab_length), unfolding(rules::specs::Environments::covers_first, rules::specs::Environments::covers_env, crate::specs::Labels::env_from, rules::specs::View::label_from))]
 pub fn label_covers(labels: &[u64; 6208], l: usize, env: Env) -> bool
     ensures { (n : ℕ) → result ≡ covers_env (env_from labels.now l n) env }
 {
@@ -322,6 +343,7 @@ pub fn argument(nodes: &[u64; 4096], k: usize) -> u32
 }
 
 // How many operands a node of operation op has: as many expressions come after it.
+#[tactic(auto, using(crate::proofs::Walk::form_rest), unfolding(rules::specs::View::form_of))]
 pub fn operands(op: u32) -> usize
     ensures { result ≡ arity (form_of op) }
 {
@@ -349,6 +371,7 @@ pub fn is_within(depth: usize, k: usize) -> bool
 }
 
 // Whether a number or a variable stands at node k, where so much depth is left. A walk answers these in place, without a call that goes deeper.
+#[tactic(auto, using(crate::proofs::Walk::not_deep, crate::proofs::Walk::not_past, crate::proofs::Walk::leaf_number, crate::proofs::Walk::leaf_variable, crate::proofs::Walk::leaf_none))]
 pub fn is_leaf(nodes: &[u64; 4096], depth: usize, k: usize) -> bool
     ensures { result ≡ leaf_at nodes.now depth k }
 {
@@ -365,6 +388,7 @@ pub fn is_leaf(nodes: &[u64; 4096], depth: usize, k: usize) -> bool
     }
 }
 
+#[tactic(auto, using(crate::proofs::Places::line_out, table::proofs::Laws::clamped), unfolding(crate::specs::Lines::stored_at))]
 pub fn line_at(body: &[u32; 2560], i: usize) -> Stored
     ensures { result ≡ stored_at body.now i }
 {
@@ -379,6 +403,7 @@ pub fn line_at(body: &[u32; 2560], i: usize) -> Stored
 }
 
 // Whether a line is that of label l.
+#[tactic(auto, unfolding(crate::specs::Lines::is_label_line))]
 fn is_label(line: Stored, l: usize) -> bool
     ensures { result ≡ is_label_line line l }
 {
@@ -392,6 +417,7 @@ fn is_label(line: Stored, l: usize) -> bool
 }
 
 // Whether label l is there, and the line that is kept for it is its own.
+#[tactic(auto, using(crate::proofs::LabelLines::there_in, crate::proofs::LabelLines::there_out, crate::proofs::LabelLines::there_past, table::proofs::Laws::above, table::proofs::Laws::below))]
 pub fn label_there(size: &[u32; 6], labels: &[u64; 6208], body: &[u32; 2560], l: usize) -> bool
     ensures { (N R D : List ℕ) → result ≡ label_there (program (tables_of size.now N R D labels.now body.now)) l }
 {
@@ -425,6 +451,7 @@ pub fn put_psi(rows: &mut [u32; 17536], r: usize, code: u32)
 }
 
 // The product k and the field o are bytes, so that their counts fit the table whatever they are.
+#[tactic(auto, using(crate::proofs::Places::fields_past, table::proofs::Laws::clamped), unfolding(rules::specs::Text::Fill::put_field))]
 pub fn put_field(rows: &mut [u32; 17536], r: usize, k: u8, o: u8, q: u32)
     ensures { rows.new ≡ put_field rows.old r k o q }
 {
@@ -461,6 +488,7 @@ pub fn put_entry(labels: &mut [u64; 6208], l: usize, v: usize, b: u64, i: u64, g
     table::put64(labels, k + 3, g);
 }
 
+#[tactic(auto, using(crate::proofs::Places::body_past, table::proofs::Laws::clamped), unfolding(rules::specs::Text::Fill::put_line))]
 pub fn put_line(body: &mut [u32; 2560], i: usize, kind: u32, l: u32, v: u32, w: u32, k: u32)
     ensures { body.new ≡ put_line body.old i kind l v w k }
 {
@@ -526,6 +554,7 @@ fn clear_body(body: &mut [u32; 2560])
 }
 
 // All tables of a program.
+#[tactic(auto, using(crate::proofs::Laws::zeros_are))]
 pub fn clear(
     size: &mut [u32; 6],
     nodes: &mut [u64; 4096],

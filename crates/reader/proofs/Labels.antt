@@ -94,7 +94,10 @@ module _ (s : List ℕ) (l v at more : ℕ) (L : List ℕ) (p : 0 < more) {x : N
     where
       by : (m : ℕ) → 0 < m → more_once s (entries_once s l (m - 1) (v + 1)) (m - 1) (entered y M) ≡ entries_once s l m v at L
       by zero z = absurd (omega arith)
-      by (suc m) z = rw (sub-one (suc m)) (ap (more_once s (entries_once s l m (v + 1)) m) (ap (λ (n : Next). entered n M) (sym h) ∙ e))
+      by (suc m) z =
+          subst (λ (n : ℕ). more_once s (entries_once s l n (v + 1)) n (entered y M) ≡ entries_once s l (suc m) v at L)
+          (sym (sub-one (suc m)))
+          (ap (more_once s (entries_once s l m (v + 1)) m) (ap (λ (n : Next). entered n M) (sym h) ∙ e))
 
   pub entry_not : {q : ℕ} → x ≡ N.Bad q → entered (N.Bad q) M ≡ entries_once s l more v at L
   entry_not h = one_read h

@@ -103,6 +103,7 @@ module _ (s : List ℕ) (k at : ℕ) (c : Count) (t u : Tables) {x : Next} (q : 
 
     passed : (f : Filled) → Refuses f → settled (lined 3 m d u) ≡ settled (limited k (n + 1) f)
     passed (filled false b v) z = same_number 3 m (n + 1) d b u v (λ e. omega (arith, e))
+    passed (filled true b v) z = elim z [ ]
 
     pub late_limit : byte_at s n ≡ 10 → Late s k at c t → settled (lined 3 m d u) ≡ settled (shaped s k at c t (line_shape s c.vars (key_of k) at))
     late_limit z l = rw (sym q ∙ h, eq-eqb (byte_at s n) 10 z) (passed (fill_line s (key_of k) at c t) (l n (sym q ∙ h) z))

@@ -62,6 +62,14 @@ module _ (s : List ℕ) (r total : ℕ) (R : List ℕ) (at : ℕ) where
         by zero p = absurd (omega arith)
         by (suc n) p = rw (e, w, sub-one (suc n))
 
+    -- the same of what the code found and wrote
+    pub field_turn : 0 < left → (ltb k 16 && (ltb o 16 && ltb total 1024)) ≡ true → {q : Reading} → q ≡ plain_at s at
+        → {n v : ℕ} → n ≡ next_of q → v ≡ value_of q → {M : List ℕ} → M ≡ put_field R r k o v
+        → more_fields s (fill_fields s r (left - 1) (total + 1) M) n k o (fields true (total + 1) M) ≡ fill_fields s r left total R k o at
+    field_turn h e w x y z =
+        let f = z ∙ ap (put_field R r k o) y in
+        (λ i. more_fields s (fill_fields s r (left - 1) (total + 1) (f i)) (x i) k o (fields true (total + 1) (f i))) ∙ sym (field_put h e w)
+
 module _ (s : List ℕ) (rest : ℕ → ℕ → ℕ → Fields) (n k o : ℕ) (done : Fields) {b : ℕ} (q : b ≡ byte_at s n) where
   pub last_field : (eqb b 44 || eqb b 124) ≡ false → more_fields s rest n k o done ≡ done
   last_field e = rw (← q) (by (eqb b 44) (eqb b 124) e)

@@ -1,5 +1,7 @@
 // A glue text read into the tables of a program: each line's shape first, then its limits, with its numbers written on the way.
 // A line with expressions is read at once, and looked at for its shape alone only if that fails; so is a label, and looked at only if it passes a limit.
+#![tactic(auto)]
+
 ghost use Rattle.std.specs.Prelude.{◌≡◌, Bool, true, false, ◌&&◌, List, ℕ, ◌+◌, ◌≤◌, ◌<◌, ltb, eqb, length};
 ghost use Rattle.rules.specs.When.{when};
 ghost use Rattle.rules.specs.Limits.{limits};
@@ -132,6 +134,7 @@ fn word_of(r: Reading) -> Word
     }
 }
 
+#[tactic(auto, using(crate::proofs::Laws::near_word, crate::proofs::Laws::worded, text::proofs::Laws::plain_reads))]
 fn plain_word(s: &[u8], at: usize) -> Word
     requires { Near s.now at }
     ensures { Worded s.now at (words.value_of (words.plain_at s.now at)) (words.next_of (words.plain_at s.now at)) result.value result.past }
@@ -139,6 +142,7 @@ fn plain_word(s: &[u8], at: usize) -> Word
     word_of(plain_at(s, at))
 }
 
+#[tactic(auto, using(crate::proofs::Laws::near_word, crate::proofs::Laws::worded, text::proofs::Laws::number_reads))]
 fn number_word(s: &[u8], at: usize) -> Word
     requires { Near s.now at }
     ensures { Worded s.now at (words.value_of (words.number_at s.now at)) (words.next_of (words.number_at s.now at)) result.value result.past }
@@ -146,6 +150,7 @@ fn number_word(s: &[u8], at: usize) -> Word
     word_of(number_at(s, at))
 }
 
+#[tactic(auto, using(crate::proofs::Laws::near_word, crate::proofs::Laws::worded, text::proofs::Laws::var_reads))]
 fn var_word(s: &[u8], at: usize) -> Word
     requires { Near s.now at }
     ensures { Worded s.now at (words.value_of (words.var_at s.now at)) (words.next_of (words.var_at s.now at)) result.value result.past }
@@ -153,6 +158,7 @@ fn var_word(s: &[u8], at: usize) -> Word
     word_of(var_at(s, at))
 }
 
+#[tactic(auto, using(crate::proofs::Laws::near_word, crate::proofs::Laws::worded, shape::proofs::Laws::psi_reads))]
 fn psi_word(s: &[u8], at: usize) -> Word
     requires { Near s.now at }
     ensures { Worded s.now at (words.value_of (shapes.psi_at s.now at)) (words.next_of (shapes.psi_at s.now at)) result.value result.past }
@@ -161,6 +167,7 @@ fn psi_word(s: &[u8], at: usize) -> Word
 }
 
 // A kind: its code.
+#[tactic(auto, using(crate::proofs::Laws::kind_bad, crate::proofs::Laws::kind_int, crate::proofs::Laws::kind_near, crate::proofs::Laws::kind_value_lem, text::proofs::Laws::plain_reads, text::proofs::Laws::value_most))]
 fn kind_code(s: &[u8], at: usize) -> Word
     requires { Placed s.now at }
     ensures { Worded s.now at (fills.kind_value s.now (shapes.kind_word s.now at)) (fills.kind_next s.now (shapes.kind_word s.now at)) result.value result.past }
@@ -189,6 +196,7 @@ fn kind_code(s: &[u8], at: usize) -> Word
 
 // ---- lines before the body
 
+#[tactic(auto, using(rules::specs::Text::Fill::filled), unfolding(rules::specs::Text::Fill::fill_ret))]
 fn fill_ret(s: &[u8], at: usize, c: Count) -> Fill
     requires { Placed s.now at }
     ensures { (t : layout.Tables) → fills.filled result.ok result.count t ≡ fills.fill_ret s.now at c t }
@@ -217,6 +225,7 @@ fn add_var(c: Count, kind: u32, how: u32, number: u32, vars: &mut [u32; 96]) -> 
     }
 }
 
+#[tactic(auto, unfolding(rules::specs::Text::Fill::fill_param))]
 fn fill_param(s: &[u8], at: usize, c: Count, vars: &mut [u32; 96]) -> Fill
     requires { Placed s.now at }
     ensures { (t : layout.Tables) → fills.filled result.ok result.count (layout.with_vars t vars.new) ≡ fills.fill_param s.now at c (layout.with_vars t vars.old) }
@@ -225,6 +234,7 @@ fn fill_param(s: &[u8], at: usize, c: Count, vars: &mut [u32; 96]) -> Fill
     add_var(c, k.value, 1, 0, vars)
 }
 
+#[tactic(auto, unfolding(rules::specs::Text::Fill::fill_local))]
 fn fill_local(s: &[u8], at: usize, c: Count, vars: &mut [u32; 96]) -> Fill
     requires { Placed s.now at }
     ensures { (t : layout.Tables) → fills.filled result.ok result.count (layout.with_vars t vars.new) ≡ fills.fill_local s.now at c (layout.with_vars t vars.old) }
@@ -263,6 +273,7 @@ fn next_field(b: u64, o: u8) -> u8
 }
 
 // One turn a field row.
+#[tactic(auto, using(crate::proofs::Laws::field_fits, crate::proofs::Laws::mark_inside, crate::proofs::Ways::field_not, crate::proofs::Ways::field_put, crate::proofs::Ways::fields_over, crate::proofs::Ways::last_field, crate::proofs::Ways::more_fields_lem, rules::specs::Text::Fill::fields, text::proofs::Laws::plain_reads, text::proofs::Laws::value_most))]
 fn fill_fields(s: &[u8], r: usize, total: usize, from: usize, rows: &mut [u32; 17536]) -> Row
     ensures { fills.fields result.ok result.total rows.new ≡ fills.fill_fields s.now r 257 total rows.old 0 0 from }
 {
@@ -300,6 +311,7 @@ fn fill_fields(s: &[u8], r: usize, total: usize, from: usize, rows: &mut [u32; 1
     }
 }
 
+#[tactic(auto, using(crate::proofs::Ways::no_products, crate::proofs::Ways::some_products))]
 fn fill_products(s: &[u8], r: usize, total: usize, at: usize, rows: &mut [u32; 17536]) -> Row
     ensures { fills.fields result.ok result.total rows.new ≡ fills.fill_products s.now r total rows.old at }
 {
@@ -312,6 +324,7 @@ fn fill_products(s: &[u8], r: usize, total: usize, at: usize, rows: &mut [u32; 1
     fill_fields(s, r, total, at, rows)
 }
 
+#[tactic(auto, using(crate::proofs::Ways::type_full, crate::proofs::Ways::type_room, rules::specs::Text::Fill::fields, rules::specs::Text::Fill::filled))]
 fn fill_type(s: &[u8], at: usize, c: Count, rows: &mut [u32; 17536]) -> Fill
     requires { Placed s.now at }
     ensures { (t : layout.Tables) → fills.filled result.ok result.count (layout.with_rows t rows.new) ≡ fills.fill_type s.now at c (layout.with_rows t rows.old) }
@@ -334,6 +347,7 @@ fn fill_type(s: &[u8], at: usize, c: Count, rows: &mut [u32; 17536]) -> Fill
 // ---- lines of the body
 
 // A line without an expression.
+#[tactic(auto, using(rules::specs::Text::Fill::filled), unfolding(rules::specs::Text::Fill::plain_line))]
 fn plain_line(c: Count, kind: u32, l: u32, v: u32, w: u32, body: &mut [u32; 2560]) -> Fill
     requires { c.lines < limits.lines }
     ensures { (t : layout.Tables) → fills.filled result.ok result.count (layout.with_body t body.new) ≡ fills.plain_line c (layout.with_body t body.old) kind l v w }
@@ -345,6 +359,7 @@ fn plain_line(c: Count, kind: u32, l: u32, v: u32, w: u32, body: &mut [u32; 2560
     }
 }
 
+#[tactic(auto, unfolding(rules::specs::Text::Fill::fill_goto))]
 fn fill_goto(s: &[u8], at: usize, c: Count, body: &mut [u32; 2560]) -> Fill
     requires { Room s.now at c }
     ensures { (t : layout.Tables) → fills.filled result.ok result.count (layout.with_body t body.new) ≡ fills.fill_goto s.now at c (layout.with_body t body.old) }
@@ -353,6 +368,7 @@ fn fill_goto(s: &[u8], at: usize, c: Count, body: &mut [u32; 2560]) -> Fill
     plain_line(c, 3, l.value, 0, 0, body)
 }
 
+#[tactic(auto, unfolding(rules::specs::Text::Fill::fill_ifimm))]
 fn fill_ifimm(s: &[u8], at: usize, c: Count, body: &mut [u32; 2560]) -> Fill
     requires { Room s.now at c }
     ensures { (t : layout.Tables) → fills.filled result.ok result.count (layout.with_body t body.new) ≡ fills.fill_ifimm s.now at c (layout.with_body t body.old) }
@@ -363,6 +379,7 @@ fn fill_ifimm(s: &[u8], at: usize, c: Count, body: &mut [u32; 2560]) -> Fill
 }
 
 // `iftag=`, `ifint=`
+#[tactic(auto, unfolding(rules::specs::Text::Fill::fill_test))]
 fn fill_test(kind: u32, s: &[u8], at: usize, c: Count, body: &mut [u32; 2560]) -> Fill
     requires { Room s.now at c }
     ensures { (t : layout.Tables) → fills.filled result.ok result.count (layout.with_body t body.new) ≡ fills.fill_test kind s.now at c (layout.with_body t body.old) }
@@ -375,6 +392,7 @@ fn fill_test(kind: u32, s: &[u8], at: usize, c: Count, body: &mut [u32; 2560]) -
 
 // ---- a line by its key
 
+#[tactic(auto, using(crate::proofs::Laws::on_from), unfolding(rules::specs::Text::Fill::fill_line, rules::specs::Text::Shape::key_of))]
 fn header_line(
     s: &[u8],
     k: u64,
@@ -394,6 +412,7 @@ fn header_line(
     }
 }
 
+#[tactic(auto, using(crate::proofs::Once::only_ifint, crate::proofs::Ways::in_body), unfolding(rules::specs::Text::Fill::fill_line, rules::specs::Text::Shape::key_of))]
 fn body_line(s: &[u8], k: u64, at: usize, c: Count, body: &mut [u32; 2560]) -> Fill
     requires { Room s.now at c × Plain k }
     ensures { (t : layout.Tables) → fills.filled result.ok result.count (layout.with_body t body.new) ≡ fills.fill_line s.now (shapes.key_of k) at c (layout.with_body t body.old) }
@@ -407,6 +426,7 @@ fn body_line(s: &[u8], k: u64, at: usize, c: Count, body: &mut [u32; 2560]) -> F
 }
 
 // A line without expressions, and no label.
+#[tactic(auto, using(crate::proofs::Ways::too_many))]
 fn fill_line(
     s: &[u8],
     k: u64,
@@ -443,6 +463,7 @@ fn refused(answer: u32, next: usize, c: Count) -> Lined
     }
 }
 
+#[tactic(auto, using(crate::proofs::Ways::refused, rules::specs::Text::lined, rules::specs::Text::Fill::filled))]
 fn limited(k: u64, next: usize, f: Fill) -> Lined
     ensures { (t : layout.Tables) → texts.lined result.answer result.next result.count t ≡ texts.limited k next (fills.filled f.ok f.count t) }
 {
@@ -459,6 +480,7 @@ fn limited(k: u64, next: usize, f: Fill) -> Lined
 }
 
 // A line without expressions, and no label, whose shape is right up to n.
+#[tactic(auto, using(crate::proofs::Ways::feed, crate::proofs::Ways::no_feed, text::proofs::Laws::inside))]
 fn shaped_line(
     s: &[u8],
     k: u64,
@@ -480,6 +502,7 @@ fn shaped_line(
 }
 
 // A line that could not be read at once: its shape is wrong (2), or it passes a limit (3).
+#[tactic(auto, using(crate::proofs::Once::late_bad, crate::proofs::Once::late_no_feed, crate::proofs::Once::late_limit))]
 fn late(s: &[u8], k: u64, at: usize, c: Count) -> Lined
     ensures { (t u : layout.Tables) → Late s.now k at c t → settled (texts.lined result.answer result.next result.count u) ≡ settled (texts.shaped s.now k at c t (shapes.line_shape s.now c.vars (shapes.key_of k) at)) }
 {
@@ -496,6 +519,7 @@ fn late(s: &[u8], k: u64, at: usize, c: Count) -> Lined
 }
 
 // A line with expressions.
+#[tactic(auto, using(crate::proofs::Once::once_room, crate::proofs::Once::once_inside, crate::proofs::Once::once_line, crate::proofs::Once::once_late))]
 fn expr_line(
     s: &[u8],
     k: u64,
@@ -521,6 +545,7 @@ fn expr_line(
 // ---- labels: an entry is written as soon as it is read, and a line feed stands after the last one
 
 // T
+#[tactic(auto, using(crate::specs::Labels::entered), unfolding(crate::specs::Labels::tag_once))]
 fn tag_once(
     s: &[u8],
     l: usize,
@@ -542,6 +567,7 @@ fn tag_once(
 }
 
 // I,T
+#[tactic(auto, using(once::proofs::Mark::word_bad, once::proofs::Mark::no_mark, once::proofs::Mark::mark, text::proofs::Laws::inside), unfolding(crate::specs::Labels::offset_once))]
 fn offset_once(s: &[u8], l: usize, v: usize, b: u64, at: usize, labels: &mut [u64; 6208]) -> Next
     ensures { entered result labels.new ≡ offset_once s.now l v b at labels.old }
 {
@@ -557,6 +583,7 @@ fn offset_once(s: &[u8], l: usize, v: usize, b: u64, at: usize, labels: &mut [u6
 }
 
 // B,I,T
+#[tactic(auto, using(once::proofs::Mark::word_bad, once::proofs::Mark::no_mark, once::proofs::Mark::mark, text::proofs::Laws::inside), unfolding(crate::specs::Labels::entry_once))]
 fn entry_once(s: &[u8], l: usize, v: usize, at: usize, labels: &mut [u64; 6208]) -> Next
     ensures { entered result labels.new ≡ entry_once s.now l v at labels.old }
 {
@@ -572,6 +599,7 @@ fn entry_once(s: &[u8], l: usize, v: usize, at: usize, labels: &mut [u64; 6208])
 }
 
 // One turn an entry of label l.
+#[tactic(auto, using(crate::proofs::Labels::entry_bad, crate::proofs::Labels::entry_last, crate::proofs::Labels::entry_not, crate::proofs::Labels::entry_on, crate::proofs::Labels::no_entries, text::proofs::Laws::inside))]
 fn entries_once(s: &[u8], l: usize, vars: usize, from: usize, labels: &mut [u64; 6208]) -> Next
     requires { vars ≤ limits.variables }
     ensures { entered result labels.new ≡ entries_once s.now l vars 0 from labels.old }
@@ -601,6 +629,7 @@ fn entries_once(s: &[u8], l: usize, vars: usize, from: usize, labels: &mut [u64;
 }
 
 // A label. Its limits are known before its entries are read, and it is looked at for its shape alone only if it passes one.
+#[tactic(auto, using(crate::proofs::Labels::label_bad, crate::proofs::Labels::label_no_feed, crate::proofs::Labels::label_whole, crate::proofs::Labels::labels_full, crate::proofs::Labels::lines_full, text::proofs::Laws::inside))]
 fn label_line(
     s: &[u8],
     at: usize,
@@ -635,6 +664,7 @@ fn label_line(
     }
 }
 
+#[tactic(auto, using(once::proofs::Keys::other_keys), unfolding(once::specs::Once::has_expr, rules::specs::Text::Shape::key_of))]
 fn has_expr(k: u64) -> bool
     ensures { result ≡ has_expr (shapes.key_of k) }
 {
@@ -648,6 +678,7 @@ fn has_expr(k: u64) -> bool
 }
 
 // A line from the place after its key on.
+#[tactic(auto, using(crate::proofs::Once::no_label, crate::proofs::Ways::not_ordered, crate::proofs::Ways::ordered))]
 fn keyed_line(
     s: &[u8],
     start: usize,
@@ -679,6 +710,7 @@ fn keyed_line(
     }
 }
 
+#[tactic(auto, using(shape::proofs::Laws::key_reads, text::proofs::Laws::got, text::proofs::Laws::inside), unfolding(rules::specs::Text::line_at))]
 fn line_at(
     s: &[u8],
     at: usize,
@@ -722,6 +754,7 @@ fn ended(c: Count, size: &mut [u32; 6]) -> Answer
 }
 
 // One turn a line.
+#[tactic(auto, using(crate::proofs::Laws::line_fits, crate::proofs::Once::fits_on, crate::proofs::Once::settled_fits, crate::proofs::Ways::goes_on, crate::proofs::Ways::lines_end, crate::proofs::Ways::lines_line, crate::proofs::Ways::lines_over, crate::proofs::Ways::refused, rules::specs::Text::lined, text::proofs::Laws::inside))]
 fn lines(
     s: &[u8],
     size: &mut [u32; 6],
@@ -777,6 +810,7 @@ fn nothing() -> Count
 }
 
 // Answers 1 to 3, or 0 with the program written over what the tables held. On a refusal they are all 0.
+#[tactic(auto, using(crate::proofs::Laws::holds, crate::proofs::Ways::closed_in, crate::proofs::Ways::closed_out, crate::proofs::Ways::not_long, crate::proofs::Ways::too_long))]
 pub fn read(
     s: &[u8],
     size: &mut [u32; 6],

@@ -33,7 +33,7 @@ fn mark_on(s: &[u8], x: Next, b: u8) -> Next
 // ---- expressions
 
 // One turn a word; `need` counts the expressions that are still to come.
-#[tactic(auto, using(crate::proofs::Ways::arity_most, crate::proofs::Ways::no_words, crate::proofs::Ways::word_bad, crate::proofs::Ways::word_ends, crate::proofs::Ways::word_not, crate::proofs::Ways::word_on, text::proofs::Laws::head_read, text::proofs::Laws::inside), unfolding(rules::specs::Text::Shape::expr_shape))]
+#[tactic(auto, using(crate::proofs::Ways::arity_most, crate::proofs::Ways::no_words, crate::proofs::Ways::word_not, text::proofs::Laws::head_read, text::proofs::Laws::inside), unfolding(rules::specs::Text::Shape::expr_shape))]
 fn expr_shape(s: &[u8], at: usize) -> Next
     ensures { result ≡ shapes.expr_shape s.now at }
 {
@@ -147,7 +147,7 @@ fn or_number(found: Reading, number: Reading, more: u64) -> Reading
 }
 
 // `inf` is 1, a number n is n + 2.
-#[tactic(auto, using(text::proofs::Laws::plain_reads, text::proofs::Laws::value_most), unfolding(rules::specs::Text::Shape::psi_at, rules::specs::Text::Shape::inf_word))]
+#[tactic(auto, unfolding(rules::specs::Text::Shape::psi_at, rules::specs::Text::Shape::inf_word))]
 pub fn psi_at(s: &[u8], at: usize) -> Reading
     ensures { result ≡ shapes.psi_at s.now at }
 {
@@ -226,7 +226,7 @@ pub fn boxed_at(s: &[u8], at: usize) -> Reading
 }
 
 // `any` is 0, a number n is n + 1.
-#[tactic(auto, using(text::proofs::Laws::plain_reads, text::proofs::Laws::value_most), unfolding(rules::specs::Text::Shape::offset_at, rules::specs::Text::Shape::any_word))]
+#[tactic(auto, unfolding(rules::specs::Text::Shape::offset_at, rules::specs::Text::Shape::any_word))]
 pub fn offset_at(s: &[u8], at: usize) -> Reading
     ensures { result ≡ shapes.offset_at s.now at }
 {
@@ -235,7 +235,7 @@ pub fn offset_at(s: &[u8], at: usize) -> Reading
 }
 
 // `any` is 0, a number whose 32 bits are w is w + 1.
-#[tactic(auto, using(text::proofs::Laws::number_reads, text::proofs::Laws::value_most), unfolding(rules::specs::Text::Shape::tag_at, rules::specs::Text::Shape::any_word))]
+#[tactic(auto, unfolding(rules::specs::Text::Shape::tag_at, rules::specs::Text::Shape::any_word))]
 pub fn tag_at(s: &[u8], at: usize) -> Reading
     ensures { result ≡ shapes.tag_at s.now at }
 {
@@ -334,7 +334,7 @@ fn iftag_shape(s: &[u8], at: usize) -> Next
 // ---- a line by its key
 
 // The key's number, from 1 to 13. Only the keys that begin with the byte at `at` are tried.
-#[tactic(auto, using(crate::proofs::Ways::key_by, crate::proofs::Ways::key_none))]
+#[tactic(auto, using(crate::proofs::Ways::key_none))]
 pub fn key_at(s: &[u8], at: usize) -> Reading
     ensures { result ≡ shapes.key_at s.now at }
 {

@@ -1,4 +1,6 @@
 // The tables of a store, read and written. Each function is for every argument: past a table is nothing, and a place past it writes nothing.
+#![tactic(auto)]
+
 ghost use Rattle.std.specs.Prelude.{◌≡◌, List, [], ◌∷◌, ℕ, ◌+◌, ◌*◌, ◌<◌, length, get_or, set, replicate};
 ghost use Rattle.rules.specs.Text.Layout.{cell};
 ghost use Rattle.rules.specs.Machine.{row_in, tag_in, cells_in, inside, cell_at, ev_var};
@@ -20,6 +22,7 @@ pub fn budget(size: &[u32; 2]) -> u32
     table::at32(size, 0)
 }
 
+#[tactic(auto, using(crate::proofs::Laws::block_count))]
 pub fn block_count(size: &[u32; 2]) -> usize
     ensures { (H C : List ℕ) → result ≡ length (store_of size.now H C) }
 {
@@ -35,6 +38,7 @@ fn head_cell(heads: &[u32; 768], b: usize, k: usize) -> u32
     table::at32(heads, i)
 }
 
+#[tactic(auto, using(crate::proofs::Laws::row_in_lem, crate::proofs::Laws::row_out, table::proofs::Laws::above, table::proofs::Laws::below))]
 pub fn block_row(size: &[u32; 2], heads: &[u32; 768], b: usize) -> usize
     ensures { (C : List ℕ) → result ≡ row_in (store_of size.now heads.now C) b }
 {
@@ -47,6 +51,7 @@ pub fn block_row(size: &[u32; 2], heads: &[u32; 768], b: usize) -> usize
     }
 }
 
+#[tactic(auto, using(crate::proofs::Laws::tag_in_lem, crate::proofs::Laws::tag_out, table::proofs::Laws::above, table::proofs::Laws::below))]
 pub fn block_tag(size: &[u32; 2], heads: &[u32; 768], b: usize) -> u32
     ensures { (C : List ℕ) → result ≡ tag_in (store_of size.now heads.now C) b }
 {
@@ -54,6 +59,7 @@ pub fn block_tag(size: &[u32; 2], heads: &[u32; 768], b: usize) -> u32
     if b < n { head_cell(heads, b, 1) } else { 0 }
 }
 
+#[tactic(auto, using(crate::proofs::Laws::cells_in_lem, crate::proofs::Laws::cells_out, table::proofs::Laws::above, table::proofs::Laws::below))]
 pub fn cell_count(size: &[u32; 2], heads: &[u32; 768], b: usize) -> usize
     ensures { (C : List ℕ) → result ≡ cells_in (store_of size.now heads.now C) b }
 {
@@ -87,6 +93,7 @@ fn block_cell(cells: &[u64; 4352], b: usize, o: usize) -> u64
     table::at64(cells, i)
 }
 
+#[tactic(auto, using(crate::proofs::Laws::cell_in, crate::proofs::Laws::cell_out, crate::proofs::Laws::cells_small, table::proofs::Laws::above, table::proofs::Laws::below))]
 pub fn cell_at(
     size: &[u32; 2],
     heads: &[u32; 768],
@@ -105,6 +112,7 @@ pub fn cell_at(
 }
 
 // Variable v of a program that has n.
+#[tactic(auto, using(crate::proofs::Laws::val_in, crate::proofs::Laws::val_out))]
 pub fn val_at(n: usize, vals: &[u64; 32], v: usize) -> Given
     ensures { result ≡ ev_var (vals_of n vals.now) v }
 {
@@ -118,6 +126,7 @@ pub fn val_at(n: usize, vals: &[u64; 32], v: usize) -> Given
 // ---- writing
 
 // The row is given as it stands, plus 1.
+#[tactic(auto, using(crate::proofs::Laws::head_past, table::proofs::Laws::clamped), unfolding(crate::specs::Heads::head_put))]
 pub fn put_head(heads: &mut [u32; 768], b: usize, row: u32, tag: u32, n: u32)
     ensures { heads.new ≡ head_put heads.old b row tag n }
 {

@@ -1,5 +1,7 @@
 // A store text into the tables of a store, beside the tables of a program, whatever these hold: answers 21 to 27, the earliest stage first.
 // Each stage is a pass over the text. A function that needs few of the tables says what holds for all the others.
+#![tactic(auto)]
+
 ghost use Rattle.std.specs.Prelude.{◌≡◌, List, ℕ, ◌+◌, ◌≤◌, length, get_or};
 ghost use Rattle.rules.specs.Answers.{first};
 ghost use Rattle.rules.specs.Environments.{no_var};
@@ -40,6 +42,7 @@ struct Taken {
 // ---- places in the text
 
 // The place after the next line feed.
+#[tactic(auto, using(crate::proofs::Ways::line_found, crate::proofs::Ways::line_none, crate::proofs::Ways::line_on), unfolding(rules::specs::Store::Fill::next_line))]
 fn next_line(s: &[u8], at: usize) -> usize
     ensures { result ≡ fills.next_line s.now at }
 {
@@ -53,6 +56,7 @@ fn next_line(s: &[u8], at: usize) -> usize
     i
 }
 
+#[tactic(auto, using(crate::proofs::Ways::line_is))]
 fn block_line(s: &[u8], at: usize) -> BlockLine
     requires { Near 32768 s.now at }
     ensures { result ≡ block_line s.now at }
@@ -71,6 +75,7 @@ fn block_line(s: &[u8], at: usize) -> BlockLine
 // ---- 24: row or block absent
 
 // Whether a place names a block that is there.
+#[tactic(auto, unfolding(rules::specs::Store::Fill::datum_there))]
 fn datum_there(blocks: usize, w: u64) -> bool
     requires { blocks ≤ 256 }
     ensures { result ≡ fills.datum_there blocks w }
@@ -79,6 +84,7 @@ fn datum_there(blocks: usize, w: u64) -> bool
 }
 
 // One turn a cell.
+#[tactic(auto, using(crate::proofs::Ways::cells_done, crate::proofs::Ways::cells_not))]
 fn cells_there(s: &[u8], blocks: usize, n: usize, at: usize) -> bool
     requires { (blocks ≤ 256) × ((n ≤ 16384) × Near 65536 s.now at) }
     ensures { result ≡ fills.cells_there s.now blocks n at }
@@ -98,6 +104,7 @@ fn cells_there(s: &[u8], blocks: usize, n: usize, at: usize) -> bool
 }
 
 // A block line, by the place after its key.
+#[tactic(auto, using(crate::proofs::Ways::block_no, crate::proofs::Ways::block_yes, crate::proofs::Ways::line_count, crate::proofs::Ways::line_start))]
 fn block_there(s: &[u8], size: &[u32; 6], blocks: usize, at: usize) -> bool
     requires { (blocks ≤ 256) × Near 32768 s.now at }
     ensures { (R : List ℕ) → result ≡ fills.block_there s.now (rows_from size.now R) blocks at }
@@ -114,6 +121,7 @@ fn block_there(s: &[u8], size: &[u32; 6], blocks: usize, at: usize) -> bool
 }
 
 // One turn an argument line, the first of them at `at`.
+#[tactic(auto, using(crate::proofs::Ways::args_done, crate::proofs::Ways::args_go, crate::proofs::Ways::args_not, crate::proofs::Ways::next_near))]
 fn arg_names(s: &[u8], blocks: usize, args: usize, at: usize, line: usize) -> Answer
     requires { (blocks ≤ 256) × ((args ≤ 291) × ((line ≤ 258) × Near (length s.now) s.now at)) }
     ensures { result ≡ first line (fills.arg_names s.now blocks args at) }
@@ -138,6 +146,7 @@ fn arg_names(s: &[u8], blocks: usize, args: usize, at: usize, line: usize) -> An
 }
 
 // One turn a block line, the first of them at `at`; then the arguments. `run=` is line 1.
+#[tactic(auto, using(crate::proofs::Ways::blocks_done, crate::proofs::Ways::blocks_go, crate::proofs::Ways::blocks_not, crate::proofs::Ways::next_near))]
 fn block_names(s: &[u8], size: &[u32; 6], blocks: usize, args: usize, at: usize) -> Answer
     requires { (blocks ≤ 256) × ((args ≤ 291) × Near (length s.now) s.now at) }
     ensures { (R : List ℕ) → result ≡ first 2 (fills.block_names s.now (rows_from size.now R) blocks args blocks at) }
@@ -159,6 +168,7 @@ fn block_names(s: &[u8], size: &[u32; 6], blocks: usize, args: usize, at: usize)
     arg_names(s, blocks, args, i, here)
 }
 
+#[tactic(auto, using(crate::proofs::Ways::next_near, crate::proofs::Ways::start_near), unfolding(rules::specs::Store::Fill::store_names))]
 fn store_names(s: &[u8], size: &[u32; 6], c: StoreCount) -> Answer
     requires { (length s.now ≤ 16384) × Few 291 c }
     ensures { (R : List ℕ) → result ≡ fills.store_names s.now (rows_from size.now R) c }
@@ -169,6 +179,7 @@ fn store_names(s: &[u8], size: &[u32; 6], c: StoreCount) -> Answer
 
 // ---- what is written
 
+#[tactic(auto, unfolding(rules::specs::Store::Fill::kept_cells))]
 fn kept_cells(n: usize) -> usize
     ensures { result ≡ fills.kept_cells n }
 {
@@ -176,6 +187,7 @@ fn kept_cells(n: usize) -> usize
 }
 
 // One turn a cell of block k.
+#[tactic(auto, using(crate::proofs::Ways::no_fill))]
 fn fill_cells(s: &[u8], k: usize, n: usize, at: usize, cells: &mut [u64; 4352])
     requires { (n ≤ 16384) × Near 65536 s.now at }
     ensures { cells.new ≡ fills.fill_cells s.now k n 0 at cells.old }
@@ -193,6 +205,7 @@ fn fill_cells(s: &[u8], k: usize, n: usize, at: usize, cells: &mut [u64; 4352])
 }
 
 // Block k, by the place after its line's key.
+#[tactic(auto, using(crate::proofs::Ways::cells_are, crate::proofs::Ways::head_is, crate::proofs::Ways::kept_most, crate::proofs::Ways::line_row, crate::proofs::Ways::line_start))]
 fn fill_block(s: &[u8], k: usize, at: usize, heads: &mut [u32; 768], cells: &mut [u64; 4352])
     requires { Near 32768 s.now at }
     ensures head { heads.new ≡ fills.put_head heads.old k (fills.row_of s.now at) (block_line s.now at).tag (fills.kept_cells (fills.cell_count s.now at)) }
@@ -205,6 +218,7 @@ fn fill_block(s: &[u8], k: usize, at: usize, heads: &mut [u32; 768], cells: &mut
 }
 
 // One turn a block; the place of the first argument line. What is left to fill from there gives what there was to fill.
+#[tactic(auto, using(crate::proofs::Ways::blocks_over, crate::proofs::Ways::next_near, crate::proofs::Ways::one_block))]
 fn fill_blocks(
     s: &[u8],
     blocks: usize,
@@ -229,6 +243,7 @@ fn fill_blocks(
 }
 
 // The datum of a local.
+#[tactic(auto, unfolding(entry::specs::Codes::writable))]
 fn local_code(k: Kind, n: Num) -> u64
     ensures { result ≡ code_of (fills.local_datum k n) }
 {
@@ -239,6 +254,7 @@ fn local_code(k: Kind, n: Num) -> u64
 }
 
 // A local has a number of its own; a parameter takes the argument at `at`.
+#[tactic(auto, using(crate::proofs::Ways::val_local, crate::proofs::Ways::val_param), unfolding(rules::specs::Program::kind_at))]
 fn val_of(s: &[u8], size: &[u32; 6], vars: &[u32; 96], v: usize, at: usize) -> Taken
     requires { Near (length s.now) s.now at }
     ensures { result ≡ taken s.now (get_or (vars_from size.now vars.now) v no_var) at }
@@ -260,6 +276,7 @@ fn val_of(s: &[u8], size: &[u32; 6], vars: &[u32; 96], v: usize, at: usize) -> T
 }
 
 // One turn a variable, the first argument line at `at`.
+#[tactic(auto, using(crate::proofs::Ways::vals_done))]
 fn fill_vals(s: &[u8], size: &[u32; 6], vars: &[u32; 96], at: usize, vals: &mut [u64; 32])
     requires { Near (length s.now) s.now at }
     ensures { vals.new ≡ fills.fill_vals s.now (vars_from size.now vars.now) 0 at vals.old }
@@ -276,6 +293,7 @@ fn fill_vals(s: &[u8], size: &[u32; 6], vars: &[u32; 96], at: usize, vals: &mut 
 }
 
 // A text of a right shape, with its counts, into the tables, whatever they held.
+#[tactic(auto, using(crate::proofs::Ways::next_near, crate::proofs::Ways::start_near))]
 fn fill(
     s: &[u8],
     size: &[u32; 6],
@@ -326,6 +344,7 @@ fn takes(size: &[u32; 6], vars: &[u32; 96], v: usize) -> usize
 }
 
 // How many variables take an argument.
+#[tactic(auto, using(crate::proofs::Ways::params_done, crate::proofs::Ways::params_one, crate::proofs::Ways::takes_most))]
 fn params_of(size: &[u32; 6], vars: &[u32; 96]) -> usize
     ensures { result ≡ params_of (vars_from size.now vars.now) }
 {
@@ -340,6 +359,7 @@ fn params_of(size: &[u32; 6], vars: &[u32; 96]) -> usize
 }
 
 // Answers 21 to 27, or 0 with the store in the tables. Whatever they held before, they are all 0 on a refusal.
+#[tactic(auto, using(crate::proofs::Ways::counts_few, crate::proofs::Ways::text_short))]
 pub fn read(
     s: &[u8],
     size: &[u32; 6],

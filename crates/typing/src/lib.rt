@@ -1,5 +1,7 @@
 // The judgement of an expression over a program's tables: nodes in preorder, the rows, the variables, and the environment as numbers, which are lent.
 // Operands are judged left to right, each with the node after it; then the form itself.
+#![tactic(auto)]
+
 ghost use Rattle.std.specs.Prelude.{◌≡◌, List, ℕ, ◌/◌, ◌%◌, ◌<◌, pos, ◌+ℤ◌, get_or};
 ghost use Rattle.rules.specs.Numbers.{num};
 ghost use Rattle.rules.specs.Program.{Rows, Var, entry};
@@ -24,6 +26,7 @@ pub struct Found {
 // ---- variables and arithmetic
 
 // Variable v in the environment that the codes stand for.
+#[tactic(auto, unfolding(rules::specs::Typing::ty_var, coded::specs::Coded::env_of))]
 fn var_coded(size: &[u32; 6], vars: &[u32; 96], codes: &[u64; 96], count: usize, v: usize) -> Judged
     ensures { result ≡ ty_var (vars_from size.now vars.now) (env_of codes.now count) v }
 {
@@ -34,6 +37,7 @@ fn var_coded(size: &[u32; 6], vars: &[u32; 96], codes: &[u64; 96], count: usize,
     }
 }
 
+#[tactic(auto, unfolding(rules::specs::Typing::ty_var))]
 pub fn var_judged(size: &[u32; 6], vars: &[u32; 96], env: Env, v: usize) -> Judged
     ensures { result ≡ ty_var (vars_from size.now vars.now) env v }
 {
@@ -71,6 +75,7 @@ fn arith_kinds(op: Op, k: Kind, e: Entry, l: Kind, d: Entry) -> Judged
     }
 }
 
+#[tactic(auto, unfolding(rules::specs::Typing::ty_arith))]
 fn ty_arith(op: Op, x: Judged, y: Judged) -> Judged
     ensures { result ≡ ty_arith op x y }
 {
@@ -107,6 +112,7 @@ fn val_of(psi: Psi, r: usize, t: Tag) -> Judged
     }
 }
 
+#[tactic(auto, unfolding(rules::specs::Typing::ty_val))]
 fn ty_val(size: &[u32; 6], rows: &[u32; 17536], r: usize, x: Judged) -> Judged
     ensures { result ≡ ty_val (rows_from size.now rows.now) r x }
 {
@@ -149,6 +155,7 @@ fn int_of(p: usize, e: Entry) -> Judged
     }
 }
 
+#[tactic(auto, unfolding(rules::specs::Typing::ty_int))]
 fn ty_int(size: &[u32; 6], rows: &[u32; 17536], x: Judged) -> Judged
     ensures { result ≡ ty_int (rows_from size.now rows.now) x }
 {
@@ -180,6 +187,7 @@ fn moved(o: Num, m: Num, n: usize) -> Index
     number::sum_in(o, m, n)
 }
 
+#[tactic(auto, using(number::specs::Places::index_at, number::specs::Places::index_out))]
 fn addr_at(size: &[u32; 6], rows: &[u32; 17536], r: usize, o: Num, t: Num, m: Num) -> Addr
     ensures { result ≡ addr_at (rows_from size.now rows.now) r o t m }
 {
@@ -283,6 +291,7 @@ fn fetch_to(size: &[u32; 6], rows: &[u32; 17536], r: usize, a: Addr) -> Judged
     }
 }
 
+#[tactic(auto, unfolding(rules::specs::Typing::ty_fetch))]
 fn ty_fetch(size: &[u32; 6], rows: &[u32; 17536], x: Judged) -> Judged
     ensures { result ≡ ty_fetch (rows_from size.now rows.now) x }
 {
@@ -312,6 +321,7 @@ fn block_entry(t: usize, o: usize) -> Entry
     }
 }
 
+#[tactic(auto, using(crate::proofs::Laws::near))]
 fn step_to(size: &[u32; 6], rows: &[u32; 17536], r: usize, e: Entry, m: Tag) -> Judged
     ensures { result ≡ stepped r (address_of (rows_from size.now rows.now) r e m) }
 {
@@ -334,6 +344,7 @@ fn step_kinds(size: &[u32; 6], rows: &[u32; 17536], k: Kind, e: Entry, l: Kind, 
     }
 }
 
+#[tactic(auto, unfolding(rules::specs::Typing::ty_step))]
 fn ty_step(size: &[u32; 6], rows: &[u32; 17536], x: Judged, y: Judged) -> Judged
     ensures { result ≡ ty_step (rows_from size.now rows.now) x y }
 {
@@ -351,6 +362,7 @@ fn ty_step(size: &[u32; 6], rows: &[u32; 17536], x: Judged, y: Judged) -> Judged
 // The forms by how many operands they have. Those with operands are judged by functions that the walk alone calls, so that no judgement is copied on its way out.
 
 // A number or a variable; no other operation that has no operands is anything (4).
+#[tactic(auto, using(program::proofs::Walk::leaf_rest), unfolding(rules::specs::View::form_of, crate::specs::Walk::form))]
 fn leaf(
     size: &[u32; 6],
     vars: &[u32; 96],
@@ -369,6 +381,7 @@ fn leaf(
     }
 }
 
+#[tactic(auto, using(program::proofs::Walk::one_rest), unfolding(rules::specs::View::form_of, crate::specs::Walk::form))]
 fn one_operand(size: &[u32; 6], rows: &[u32; 17536], op: u32, a: u32, x: Judged) -> Judged
     requires { arity (form_of op) ≡ 1 }
     ensures { (D : List Var) (Γ : Env) → result ≡ form (rows_from size.now rows.now) D Γ (form_of op) a x (Judged.No 4) }
@@ -398,6 +411,7 @@ fn tag_only(x: Judged) -> Judged
 }
 
 // Arithmetic, whose operations are those past `step`; of the first operand the tag alone is given.
+#[tactic(auto, using(program::proofs::Walk::two_rest, program::proofs::Walk::past_six, crate::specs::Walk::arith_tags), unfolding(rules::specs::View::form_of, crate::specs::Walk::form))]
 fn two_ints(op: u32, x: Judged, y: Judged) -> Judged
     requires { (6 < op) × (arity (form_of op) ≡ 0 → ⊥) }
     ensures { (ρ : Rows) (D : List Var) (Γ : Env) (a : ℕ) (v : Judged) → x ≡ tag_only v → result ≡ form ρ D Γ (form_of op) a v y }

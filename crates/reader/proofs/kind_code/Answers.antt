@@ -1,0 +1,14 @@
+-- By the word of the kind.
+use Rattle.std.proofs.Common.{arith}
+use Rattle.text.proofs.Laws.{plain_reads, value_most}
+use Rattle.reader.proofs.Laws.{kind_near, kind_value_lem}
+use Rattle.reader.proofs.kind_code.Goals as goal
+
+pub plain_word-w-requires : goal.plain_word-w-requires
+plain_word-w-requires c = record { near = omega (arith, kind_near c.args.s.now c.args.at c.requires c.in-Got.ensures); short = c.requires.short }
+
+pub overflow_add-result-in-Got : goal.overflow_add-result-in-Got
+overflow_add-result-in-Got c = omega (arith, value_most (plain_reads c.args.s.now c.in-Got.n), c.plain_word-w.ensures.gives)
+
+pub returns-else-which-eq0 : goal.returns-else-which-eq0
+returns-else-which-eq0 c = kind_value_lem c.args.s.now c.args.at c.in-Got.which c.in-Got.n c.in-Got.ensures c.if-which-eq0.false c.plain_word-w.ensures
