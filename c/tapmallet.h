@@ -1,6 +1,6 @@
 /* tapmallet.h: the proved checker and stepper for C and C++.
 
-   `rt staticlib export` writes target/staticlib/libexport.a, x86-64 code with no state of its own that calls nothing but memcpy and memset:
+   `.ci/build library` writes target/staticlib/libexport.a, x86-64 code with no state of its own that calls nothing but memcpy and memset:
        cc -I c yours.c target/staticlib/libexport.a
 
    Call the two wrappers at the end of this file: they test what the library needs. What is proved is proved of the library's functions, for every text;

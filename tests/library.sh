@@ -1,15 +1,15 @@
 # shellcheck shell=sh
 # Sourced by the tests of the C header and of the OCaml binding, after count.sh: the proved library, and the texts that it is held to. Those are the corpus
-# program's: its input, and its expected output, which was worked out by hand for cases/ and is the second program's for the others.
+# program's: its input, and what it must print, which was worked out by hand for cases/ and is the second program's for the others.
 # shellcheck disable=SC2154
 library=$PWD/target/staticlib/libexport.a
-texts=$PWD/crates/corpus/stdin
-answers=$PWD/crates/corpus/stdout
+texts=$PWD/target/corpus/texts
+answers=$PWD/target/corpus/answers
 
 # The library is written if it is missing or older than the code.
 build_library() {
-    if [ -f "$library" ] && [ -z "$(find crates -name '*.rt' -newer "$library")" ]; then return; fi
-    rt staticlib export > "$room/said" 2>&1 || { tail -n 3 "$room/said" && return 1; }
+    if [ -f "$library" ] && [ -z "$(find crates/*/src -name '*.rt' -newer "$library")" ]; then return; fi
+    .ci/build library > "$room/said" 2>&1 || { tail -n 3 "$room/said" && return 1; }
 }
 
 make_texts() {
@@ -23,6 +23,6 @@ has_library() {
         skip "$1" "the proved library is x86-64 code, and this machine is not"
         return 1
     fi
-    build_library || { fail "$1" "rt staticlib export" && return 1; }
+    build_library || { fail "$1" "the proved library was not built" && return 1; }
     make_texts || { fail "$1" "the texts could not be made" && return 1; }
 }
