@@ -2,7 +2,8 @@
 -- every other line is as the rules say, and so is a label that is there (`There`). For the rules an absent label's environment has no entry at all,
 -- and code has no such environment: each has an entry for all 32 variables. Assumes nothing.
 use Rattle.std.specs.Prelude.{◌⊎◌}
-use Rattle.rules.specs.Prelude.{ℕ, ◌+◌, Bool, true, false, List, [], ◌∷◌, ◌++◌, map, ◌≡◌, length}
+use Rattle.std.specs.Prelude.{◌+◌, ◌∷◌, ◌++◌, ◌≡◌}
+use Rattle.rules.specs.Prelude.{ℕ, Bool, true, false, List, [], map, length}
 use Rattle.rules.specs.declared.Env.{Env}
 use Rattle.rules.specs.declared.Line.{Line}
 use Rattle.rules.specs.declared.Answer.{Answer}

@@ -3,7 +3,8 @@
 use Rattle.std.specs.Prelude.{T}
 use borrow.Author.Tests.{ltb-true, eqb-true}
 use Rattle.std.proofs.Common.{arith as lin}
-use Rattle.rules.specs.Prelude.{ℕ, ◌+◌, ◌<◌, Bool, true, false, List, [], ◌∷◌, ◌++◌, map, ◌≡◌, refl, ap, ltb, length}
+use Rattle.std.specs.Prelude.{◌+◌, ◌<◌, ◌∷◌, ◌++◌, ◌≡◌}
+use Rattle.rules.specs.Prelude.{ℕ, Bool, true, false, List, [], map, refl, ap, ltb, length}
 use Rattle.rules.specs.declared.Env.{Env}
 use Rattle.rules.specs.Answers.{accepted, passes, and_then, first}
 use Rattle.rules.specs.Text.Layout.{Tables}

@@ -1,6 +1,7 @@
 -- Checking, way by way: a program refused by its names, by a type or by its last line; a text refused as it is read, by its program, or not at all. Assumes nothing.
 use borrow.Author.Tests.{ne_eqb, eq-eqb}
-use Rattle.rules.specs.Prelude.{ℕ, zero, suc, ◌+◌, List, ◌≡◌, refl, sym, ap, ◌∙◌, subst, not, ltb, eqb, length}
+use Rattle.std.specs.Prelude.{◌+◌, ◌≡◌}
+use Rattle.rules.specs.Prelude.{ℕ, zero, suc, List, refl, sym, ap, ◌∙◌, subst, not, ltb, eqb, length}
 use Rattle.rules.specs.declared.Answer.{Answer}
 use Rattle.rules.specs.declared.Count.{Count}
 use Rattle.rules.specs.declared.Verdict.{Verdict}

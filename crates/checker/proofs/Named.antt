@@ -3,7 +3,8 @@ use lib.Dec.{T, ltb→lt}
 use lib.ListN.{get_or-eq_default}
 use borrow.Author.Tests.{lt-ltb, ltb-false, eqb-true}
 use native.Mathlib.Omega.{arith as lin}
-use Rattle.rules.specs.Prelude.{ℕ, ◌+◌, ◌≤◌, Bool, true, false, ◌&&◌, List, [], ◌∷◌, ◌++◌, map, ◌≡◌, refl, sym, ap, subst, not, ltb, eqb, length, ℤ, pos, negsuc}
+use Rattle.std.specs.Prelude.{◌+◌, ◌≤◌, ◌&&◌, ◌∷◌, ◌++◌, ◌≡◌}
+use Rattle.rules.specs.Prelude.{ℕ, Bool, true, false, List, [], map, refl, sym, ap, subst, not, ltb, eqb, length, ℤ, pos, negsuc}
 use Rattle.rules.specs.declared.Answer.{Answer}
 use Rattle.rules.specs.declared.Entry.{Entry}
 use Rattle.rules.specs.declared.Env.{Env}

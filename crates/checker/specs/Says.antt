@@ -1,5 +1,6 @@
 -- An answer and six tables are what the rules say of a text. Assumes nothing.
-use Rattle.rules.specs.Prelude.{ℕ, List, ◌≡◌}
+use Rattle.std.specs.Prelude.{◌≡◌}
+use Rattle.rules.specs.Prelude.{ℕ, List}
 use Rattle.rules.specs.declared.Verdict.{Verdict}
 use Rattle.rules.specs.Answers.{case_of}
 use Rattle.rules.specs.Check.{Checked}

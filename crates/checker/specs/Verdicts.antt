@@ -1,5 +1,6 @@
 -- What the checker answers has the number and the line of the rules. Assumes nothing.
-use Rattle.rules.specs.Prelude.{ℕ, List, ◌≡◌, ap, ◌∙◌}
+use Rattle.std.specs.Prelude.{◌≡◌}
+use Rattle.rules.specs.Prelude.{ℕ, List, ap, ◌∙◌}
 use Rattle.rules.specs.declared.Verdict.{Verdict}
 use Rattle.rules.specs.Answers.{answer_of, case_of}
 use Rattle.rules.specs.Check.{checked, verdict}

@@ -1,5 +1,6 @@
 -- An environment's entries as numbers: three for each variable, as a label's stand in their table. Assumes nothing.
-use Rattle.rules.specs.Prelude.{ℕ, List, ◌+◌, ◌*◌, get_or, set}
+use Rattle.std.specs.Prelude.{◌+◌, ◌*◌}
+use Rattle.rules.specs.Prelude.{ℕ, List, get_or, set}
 use Rattle.rules.specs.declared.Entry.{Entry}
 use Rattle.rules.specs.declared.Env.{Env}
 use Rattle.rules.specs.Limits.{limits}

@@ -2,7 +2,8 @@
 -- A premise that begins with `Says`, `Steps`, `Runs` or `told` is the contract of the function that is named above it, as its crate states it;
 -- what follows holds of every result and every table that the contract allows. That a function returns, and reads nothing outside a table, is part of its being proved.
 -- docs/PROMISES.md says where each name is defined. Assumes nothing.
-use Rattle.rules.specs.Prelude.{ℕ, ◌-◌, List, [], ◌≡◌, sym, ap, subst, ◌∙◌, ◌↔◌, get_or}
+use Rattle.std.specs.Prelude.{◌-◌, ◌≡◌, ◌↔◌}
+use Rattle.rules.specs.Prelude.{ℕ, List, [], sym, ap, subst, ◌∙◌, get_or}
 use Rattle.rules.specs.declared.Answer.{Answer}
 use Rattle.rules.specs.declared.Verdict.{Verdict}
 use Rattle.rules.specs.declared.Verdict.TheVariants as K

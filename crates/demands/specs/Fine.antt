@@ -1,5 +1,6 @@
 -- What demand 3 says of a run that was not refused. Assumes nothing.
-use Rattle.rules.specs.Prelude.{ℕ, List, ◌≡◌, get_or}
+use Rattle.std.specs.Prelude.{◌≡◌}
+use Rattle.rules.specs.Prelude.{ℕ, List, get_or}
 use Rattle.rules.specs.declared.Given.TheVariants.{Stuck}
 use Rattle.rules.specs.Machine.{Machine}
 use Rattle.rules.specs.Store.{read_store}

@@ -1,6 +1,7 @@
 -- What the demands of the code rest on. Assumes nothing.
 use Rattle.std.proofs.Common.{eq-eqb, ne_eqb, eqb-true}
-use Rattle.rules.specs.Prelude.{ℕ, ◌+◌, ◌-◌, Bool, true, false, List, ◌≡◌, refl, sym, ap, ◌∙◌, ltb, length, get_or}
+use Rattle.std.specs.Prelude.{◌+◌, ◌-◌, ◌≡◌}
+use Rattle.rules.specs.Prelude.{ℕ, Bool, true, false, List, refl, sym, ap, ◌∙◌, ltb, length, get_or}
 use Rattle.rules.specs.declared.Answer.{Answer}
 use Rattle.rules.specs.declared.Stepped.{Stepped}
 use Rattle.rules.specs.declared.Stepped.TheVariants as T

@@ -1,5 +1,6 @@
 -- The contracts of answers, checker, runner, prints, told and export determine. Assumes nothing.
-use Rattle.rules.specs.Prelude.{ℕ, List, ◌≡◌, refl}
+use Rattle.std.specs.Prelude.{◌≡◌}
+use Rattle.rules.specs.Prelude.{ℕ, List, refl}
 use Rattle.rules.specs.declared.Verdict.{Verdict}
 use Rattle.rules.specs.Check.{Checked}
 use Rattle.rules.proofs.Laws.Told.{cases_apart}

@@ -1,5 +1,6 @@
 -- The contracts of names, once, reader, tally, fits and store determine. Assumes nothing.
-use Rattle.rules.specs.Prelude.{ℕ, List, [], ◌≡◌, refl, ap}
+use Rattle.std.specs.Prelude.{◌≡◌}
+use Rattle.rules.specs.Prelude.{ℕ, List, [], refl, ap}
 use Rattle.rules.specs.declared.Answer.{Answer}
 use Rattle.rules.specs.Text.{TextOut}
 use Rattle.rules.specs.Store.Text.{Counted, counted_out}

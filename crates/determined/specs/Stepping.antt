@@ -1,5 +1,6 @@
 -- The contracts of eval, act, moves and machine determine. Assumes nothing.
-use Rattle.rules.specs.Prelude.{ℕ, List, [], ◌≡◌, refl}
+use Rattle.std.specs.Prelude.{◌≡◌}
+use Rattle.rules.specs.Prelude.{ℕ, List, [], refl}
 use Rattle.rules.specs.declared.Stepped.{Stepped}
 use Rattle.rules.specs.Machine.Tables.{MTables}
 use Rattle.moves.specs.declared.Moved.{Moved}

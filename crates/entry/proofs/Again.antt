@@ -1,6 +1,7 @@
 -- What was written as numbers of a table is read again as it was, an entry whose numbers are 32-bit; and every datum that was read from a table can be written. Assumes nothing.
 use Rattle.std.proofs.Common.{arith, lt-ltb, ne_eqb}
-use Rattle.rules.specs.Prelude.{ℕ, ◌+◌, ◌-◌, ◌/◌, ◌%◌, ◌<◌, true, ◌≡◌, refl, ap, ◌∙◌, eqb}
+use Rattle.std.specs.Prelude.{◌+◌, ◌-◌, ◌/◌, ◌%◌, ◌<◌, ◌≡◌}
+use Rattle.rules.specs.Prelude.{ℕ, true, refl, ap, ◌∙◌, eqb}
 use Rattle.rules.specs.declared.Num.{Num}
 use Rattle.rules.specs.declared.Boxed.{Boxed}
 use Rattle.rules.specs.declared.Offset.{Offset}

@@ -1,5 +1,6 @@
 -- An entry as three numbers of a table, and which data a table's number can hold. Assumes nothing.
-use Rattle.rules.specs.Prelude.{ℕ, ◌+◌, Bool, true, ◌&&◌, ltb}
+use Rattle.std.specs.Prelude.{◌+◌, ◌&&◌}
+use Rattle.rules.specs.Prelude.{ℕ, Bool, true, ltb}
 use Rattle.rules.specs.declared.Boxed.{Boxed}
 use Rattle.rules.specs.declared.Offset.{Offset}
 use Rattle.rules.specs.declared.Tag.{Tag}

@@ -1,5 +1,6 @@
 -- What the tree at a node gives in the machine, with the node after it; and what a node gives, from what its operands give. Assumes nothing.
-use Rattle.rules.specs.Prelude.{ℕ, List, ◌≡◌, refl}
+use Rattle.std.specs.Prelude.{◌≡◌}
+use Rattle.rules.specs.Prelude.{ℕ, List, refl}
 use Rattle.rules.specs.declared.Datum.TheVariants.{Int, Imm, Place}
 use Rattle.rules.specs.declared.Op.{Op}
 use Rattle.rules.specs.declared.Given.{Given}

@@ -3,7 +3,8 @@ use native.Mathlib.Omega.{arith as lin}
 use native.Mathlib.Numerals.{add-one}
 use lib.ListN.{drop_of_length-le}
 use lib.Seq.{drop-cons}
-use Rattle.rules.specs.Prelude.{ℕ, suc, ◌+◌, ◌<◌, ◌≤◌, Bool, true, false, ◌&&◌, List, [], ◌∷◌, ◌≡◌, refl, sym, ◌∙◌, eqb, length, get_or, drop}
+use Rattle.std.specs.Prelude.{◌+◌, ◌<◌, ◌≤◌, ◌&&◌, ◌∷◌, ◌≡◌}
+use Rattle.rules.specs.Prelude.{ℕ, suc, Bool, true, false, List, [], refl, sym, ◌∙◌, eqb, length, get_or, drop}
 use Rattle.rules.specs.declared.Reading.TheVariants.{Bad}
 use Rattle.rules.specs.Bytes.{bytes}
 use Rattle.rules.specs.Text.Words.{value_of, agreed, or_word}

@@ -1,5 +1,6 @@
 -- What no step of tables alters, and a step of a lent machine as a step of its parts. Assumes nothing.
-use Rattle.rules.specs.Prelude.{Bool, true, false, List, ℕ, [], ◌≡◌, refl, sym, ap, ◌∙◌}
+use Rattle.std.specs.Prelude.{◌≡◌}
+use Rattle.rules.specs.Prelude.{Bool, true, false, List, ℕ, [], refl, sym, ap, ◌∙◌}
 use Rattle.rules.specs.declared.Act.{Act}
 use Rattle.rules.specs.declared.Act.TheVariants as D
 use Rattle.rules.specs.declared.Given.{Given}

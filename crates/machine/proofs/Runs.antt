@@ -1,7 +1,8 @@
 -- Runs of tables: a step that does not move ends a run, and one that moves counts one and leaves the rest of it. Assumes nothing.
 use native.Mathlib.Omega.{arith as lin}
 use borrow.Author.Tests.{leb-true, leb-false}
-use Rattle.rules.specs.Prelude.{ℕ, zero, suc, ◌+◌, ◌-◌, ◌<◌, Bool, true, false, List, [], get_or, ◌≡◌, refl, sym, ap, subst, ◌∙◌}
+use Rattle.std.specs.Prelude.{◌+◌, ◌-◌, ◌<◌, ◌≡◌}
+use Rattle.rules.specs.Prelude.{ℕ, zero, suc, Bool, true, false, List, [], get_or, refl, sym, ap, subst, ◌∙◌}
 use Rattle.rules.specs.declared.Act.{Act}
 use Rattle.rules.specs.declared.Act.TheVariants as D
 use Rattle.rules.specs.declared.Given.{Given}

@@ -1,5 +1,6 @@
 -- What is decided, done: each act on a machine in parts, and what it leaves. Assumes nothing.
-use Rattle.rules.specs.Prelude.{ℕ, ◌+◌, ◌*◌, true, List, set, ◌≡◌, refl, subst}
+use Rattle.std.specs.Prelude.{◌+◌, ◌*◌, ◌≡◌}
+use Rattle.rules.specs.Prelude.{ℕ, true, List, set, refl, subst}
 use Rattle.rules.specs.declared.Act.{Act}
 use Rattle.rules.specs.declared.Act.TheVariants as D
 use Rattle.rules.specs.declared.Datum.{Datum}

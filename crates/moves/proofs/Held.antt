@@ -4,7 +4,8 @@ use native.Mathlib.Omega.{arith as lin}
 use native.Mathlib.Decide.{dec_lt}
 use lib.Dec.{T, ltb→lt}
 use lib.ListN.{get_or-eq_default}
-use Rattle.rules.specs.Prelude.{ℕ, ◌<◌, ◌≤◌, Bool, true, false, not, ◌&&◌, List, ℤ, pos, negsuc, ◌+ℤ◌, ltb, eqb, get_or, length, ◌≡◌, refl, sym, subst}
+use Rattle.std.specs.Prelude.{◌<◌, ◌≤◌, ◌&&◌, ◌+ℤ◌, ◌≡◌}
+use Rattle.rules.specs.Prelude.{ℕ, Bool, true, false, not, List, ℤ, pos, negsuc, ltb, eqb, get_or, length, refl, sym, subst}
 use Rattle.rules.specs.declared.Num.{Num}
 use Rattle.rules.specs.declared.Datum.TheVariants.{Int, Imm, Place}
 use Rattle.rules.specs.declared.Given.{Given}

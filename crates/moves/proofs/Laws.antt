@@ -1,6 +1,7 @@
 -- The ways that a step of a machine in parts can go. Assumes nothing.
 use borrow.Author.Tests.{le-leb, lt-leb}
-use Rattle.rules.specs.Prelude.{ℕ, ◌<◌, ◌≤◌, List, get_or, length, ◌≡◌, refl, sym, ap, subst, ◌∙◌}
+use Rattle.std.specs.Prelude.{◌<◌, ◌≤◌, ◌≡◌}
+use Rattle.rules.specs.Prelude.{ℕ, List, get_or, length, refl, sym, ap, subst, ◌∙◌}
 use Rattle.rules.specs.declared.Act.{Act}
 use Rattle.rules.specs.declared.Datum.{Datum}
 use Rattle.rules.specs.declared.Given.{Given}

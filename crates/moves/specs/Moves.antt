@@ -1,6 +1,7 @@
 -- A machine in parts: the tables that its parts make, what a step of them must give, and what it is to do what a line decides. Assumes nothing.
 use Rattle.std.specs.Prelude.{◌≡◌}
-use Rattle.rules.specs.Prelude.{ℕ, ◌<◌, true, List, get_or}
+use Rattle.std.specs.Prelude.{◌<◌}
+use Rattle.rules.specs.Prelude.{ℕ, true, List, get_or}
 use Rattle.rules.specs.declared.Act.{Act}
 use Rattle.rules.specs.declared.Act.TheVariants as D
 use Rattle.rules.specs.Program.{Prog}

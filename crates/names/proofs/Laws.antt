@@ -4,7 +4,8 @@ use native.Mathlib.Decide.{dec_lt}
 use mathlib.Core.Path.{ap₂}
 use lib.ListN.{get_or-eq_default, get_or-map, length-map}
 use borrow.Author.Tests.{ne_eqb}
-use Rattle.rules.specs.Prelude.{ℕ, zero, suc, ◌+◌, ◌-◌, ◌/◌, ◌%◌, ◌<◌, ◌≤◌, Bool, true, false, ◌&&◌, List, [], ◌∷◌, ◌++◌, map, ◌≡◌, refl, sym, ap, ◌∙◌, not, eqb, length, get_or, drop}
+use Rattle.std.specs.Prelude.{◌+◌, ◌-◌, ◌/◌, ◌%◌, ◌<◌, ◌≤◌, ◌&&◌, ◌∷◌, ◌++◌, ◌≡◌}
+use Rattle.rules.specs.Prelude.{ℕ, zero, suc, Bool, true, false, List, [], map, refl, sym, ap, ◌∙◌, not, eqb, length, get_or, drop}
 use Rattle.rules.specs.declared.Answer.{Answer}
 use Rattle.rules.specs.Numbers.{num_code}
 use Rattle.rules.specs.Answers.{answer, and_then, first}

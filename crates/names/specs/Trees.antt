@@ -1,5 +1,6 @@
 -- Names, where trees are looked at only if asked for: what a tree names is taken as there otherwise. Assumes nothing.
-use Rattle.rules.specs.Prelude.{ℕ, Bool, true, false, ◌&&◌, ◌∷◌, ◌++◌, map, ◌≡◌, refl, ap, ap₂, List, []}
+use Rattle.std.specs.Prelude.{◌&&◌, ◌∷◌, ◌++◌, ◌≡◌}
+use Rattle.rules.specs.Prelude.{ℕ, Bool, true, false, map, refl, ap, ap₂, List, []}
 use Rattle.rules.specs.declared.Answer.{Answer}
 use Rattle.rules.specs.When.{need}
 use Rattle.rules.specs.Answers.{first}

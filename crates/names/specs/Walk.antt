@@ -1,5 +1,6 @@
 -- Whether a tree names only what exists, form by form, and with the node after it as one number. Assumes nothing.
-use Rattle.rules.specs.Prelude.{ℕ, ◌+◌, Bool, true, false, ◌&&◌, List}
+use Rattle.std.specs.Prelude.{◌+◌, ◌&&◌}
+use Rattle.rules.specs.Prelude.{ℕ, Bool, true, false, List}
 use Rattle.rules.specs.Program.{Prog, row_there, var_there}
 use Rattle.rules.specs.View.{Form, none, lit_f, var_f, fetch_f, int_f, val_f, step_f, calc, tree_of, tree_at}
 use Rattle.rules.specs.Names.{expr_there}

@@ -11,7 +11,8 @@ use mir.Syntax.{Width, w32, w64}
 use mir.Val.{SFits, Fits, of_z, to_z, bits, hbits}
 use mir.ValLaws.{half_full}
 use mir.Facts.{to_z-of_z, Fits-nat_abs, sfits_widen, to_z_pos}
-use Rattle.rules.specs.Prelude.{ℕ, zero, suc, ◌+◌, ◌-◌, ◌*◌, ◌%◌, ◌≤◌, ◌<◌, Bool, true, false, ltb, eqb, ◌≡◌, refl, sym, ap, ap₂, ◌∙◌, subst, ℤ, pos, negsuc, ◌+ℤ◌, ◌-ℤ◌, ◌*ℤ◌}
+use Rattle.std.specs.Prelude.{◌+◌, ◌-◌, ◌*◌, ◌%◌, ◌≤◌, ◌<◌, ◌≡◌, ◌+ℤ◌, ◌-ℤ◌, ◌*ℤ◌}
+use Rattle.rules.specs.Prelude.{ℕ, zero, suc, Bool, true, false, ltb, eqb, refl, sym, ap, ap₂, ◌∙◌, subst, ℤ, pos, negsuc}
 use Rattle.rules.specs.Numbers.{num, eq_z, num_code, wrap32}
 use Rattle.number.specs.declared.Sign.TheVariants.{Plus, Minus}
 use Rattle.number.specs.declared.Index.TheVariants.{At, Outside}

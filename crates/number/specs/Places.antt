@@ -1,5 +1,6 @@
 -- A whole number by its sign, and as a place among n; what a caller reads off such a place. Assumes nothing.
-use Rattle.rules.specs.Prelude.{ℕ, Bool, true, false, ◌≡◌, refl, ℤ, pos, negsuc}
+use Rattle.std.specs.Prelude.{◌≡◌}
+use Rattle.rules.specs.Prelude.{ℕ, Bool, true, false, refl, ℤ, pos, negsuc}
 use Rattle.rules.specs.When.{need}
 use Rattle.rules.specs.Numbers.{among, nat_of}
 use Rattle.number.specs.declared.Sign.{Sign}

@@ -1,6 +1,7 @@
 -- Which keys have expressions, by their number. Assumes nothing.
 use native.Mathlib.Omega.{arith}
-use Rattle.rules.specs.Prelude.{ℕ, zero, suc, true, false, ◌≡◌, refl}
+use Rattle.std.specs.Prelude.{◌≡◌}
+use Rattle.rules.specs.Prelude.{ℕ, zero, suc, true, false, refl}
 use Rattle.rules.specs.Text.Shape.{key_of}
 use Rattle.once.specs.Once.{has_expr}
 

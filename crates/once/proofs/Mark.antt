@@ -1,6 +1,7 @@
 -- A word and the byte after it: one law for each way through the code. Assumes nothing.
 use borrow.Author.Tests.{eq-eqb, ne_eqb}
-use Rattle.rules.specs.Prelude.{ℕ, ◌+◌, List, ◌≡◌, sym, ap, ◌∙◌}
+use Rattle.std.specs.Prelude.{◌+◌, ◌≡◌}
+use Rattle.rules.specs.Prelude.{ℕ, List, sym, ap, ◌∙◌}
 use Rattle.rules.specs.declared.Reading.{Reading}
 use Rattle.rules.specs.declared.Reading.TheVariants.{Got, Bad}
 use Rattle.rules.specs.Text.Words.{byte_at}

@@ -2,7 +2,8 @@
 use mathlib.Core.Logic.{◌⊎◌, inl, inr, ⊎_elim}
 use native.Mathlib.Omega.{arith}
 use borrow.Author.Tests.{eqb-true, ne_eqb}
-use Rattle.rules.specs.Prelude.{ℕ, zero, suc, ◌+◌, ◌-◌, ◌*◌, ◌≤◌, Bool, true, false, List, ◌≡◌, refl, subst, ◌∙◌, ltb, eqb, length, set}
+use Rattle.std.specs.Prelude.{◌+◌, ◌-◌, ◌*◌, ◌≤◌, ◌≡◌}
+use Rattle.rules.specs.Prelude.{ℕ, zero, suc, Bool, true, false, List, refl, subst, ◌∙◌, ltb, eqb, length, set}
 use Rattle.rules.specs.declared.Head.{Head}
 use Rattle.rules.specs.declared.Head.TheVariants.{Node, Not}
 use Rattle.rules.specs.declared.Next.{Next}

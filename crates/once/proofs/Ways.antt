@@ -1,6 +1,7 @@
 -- Lines: one law for each way through their code. Assumes nothing.
 use borrow.Author.Tests.{lt-ltb, le-ltb, eq-eqb, ne_eqb}
-use Rattle.rules.specs.Prelude.{ℕ, ◌+◌, ◌≤◌, ◌<◌, false, List, ◌≡◌, refl, sym, ap, ◌∙◌}
+use Rattle.std.specs.Prelude.{◌+◌, ◌≤◌, ◌<◌, ◌≡◌}
+use Rattle.rules.specs.Prelude.{ℕ, false, List, refl, sym, ap, ◌∙◌}
 use Rattle.rules.specs.declared.Filling.{Filling}
 use Rattle.rules.specs.declared.Filling.TheVariants as F
 use Rattle.rules.specs.Text.Words.{byte_at}

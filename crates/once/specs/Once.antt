@@ -1,5 +1,6 @@
 -- A body line with expressions, read once: what is written while its shape and its limits are tested, up to the first test that fails. Assumes nothing.
-use Rattle.rules.specs.Prelude.{ℕ, zero, suc, ◌+◌, ◌*◌, Bool, true, false, List, ltb, eqb, set}
+use Rattle.std.specs.Prelude.{◌+◌, ◌*◌}
+use Rattle.rules.specs.Prelude.{ℕ, zero, suc, Bool, true, false, List, ltb, eqb, set}
 use Rattle.rules.specs.declared.Reading.{Reading}
 use Rattle.rules.specs.declared.Reading.TheVariants.{Got, Bad}
 use Rattle.rules.specs.declared.Head.{Head}

@@ -4,7 +4,8 @@ use native.Mathlib.Omega.{arith}
 use lib.ListN.{length-append, drop_of_length-le}
 use lib.Seq.{drop-cons}
 use borrow.Author.Tests.{lt-ltb, le-ltb}
-use Rattle.rules.specs.Prelude.{ℕ, zero, suc, ◌+◌, ◌-◌, ◌/◌, ◌%◌, ◌<◌, ◌≤◌, List, [], ◌∷◌, ◌++◌, ◌≡◌, refl, sym, ap, ◌∙◌, subst, ℤ, pos, negsuc, length, get_or, set, drop, replicate}
+use Rattle.std.specs.Prelude.{◌+◌, ◌-◌, ◌/◌, ◌%◌, ◌<◌, ◌≤◌, ◌∷◌, ◌++◌, ◌≡◌}
+use Rattle.rules.specs.Prelude.{ℕ, zero, suc, List, [], refl, sym, ap, ◌∙◌, subst, ℤ, pos, negsuc, length, get_or, set, drop, replicate}
 use Rattle.rules.specs.Run.{digits_of, decimal, signed}
 use Rattle.number.specs.Places.{sign_of}
 use Rattle.number.specs.declared.Sign.TheVariants.{Plus, Minus}

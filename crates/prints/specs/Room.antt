@@ -3,7 +3,8 @@ use Rattle.std.proofs.Common.{length-append, arith}
 use Rattle.std.proofs.lemmas.List.{length-replicate}
 use Rattle.std.proofs.lemmas.List.Edits.{sets-eq}
 use Rattle.std.proofs.Math.Seq.{take-append_seam}
-use Rattle.rules.specs.Prelude.{ℕ, zero, suc, ◌+◌, ◌/◌, ◌%◌, ◌≤◌, List, [], ◌∷◌, ◌≡◌, ap, ◌∙◌, ltb, ℤ, pos, negsuc, length, take, drop, replicate}
+use Rattle.std.specs.Prelude.{◌+◌, ◌/◌, ◌%◌, ◌≤◌, ◌∷◌, ◌≡◌}
+use Rattle.rules.specs.Prelude.{ℕ, zero, suc, List, [], ap, ◌∙◌, ltb, ℤ, pos, negsuc, length, take, drop, replicate}
 use Rattle.rules.specs.declared.Answer.{Answer}
 use Rattle.rules.specs.declared.Datum.TheVariants.{Int, Imm, Place}
 use Rattle.rules.specs.declared.Given.{Given}

@@ -1,7 +1,8 @@
 -- A table into which a word is written from a place on. Assumes nothing.
 use Rattle.std.proofs.lemmas.List.Edits.{sets}
 use Rattle.std.proofs.Common.{arith}
-use Rattle.rules.specs.Prelude.{ℕ, suc, ◌+◌, List, [], ◌∷◌, ◌++◌, ◌≡◌, ap, ◌∙◌, length, set, replicate}
+use Rattle.std.specs.Prelude.{◌+◌, ◌∷◌, ◌++◌, ◌≡◌}
+use Rattle.rules.specs.Prelude.{ℕ, suc, List, [], ap, ◌∙◌, length, set, replicate}
 
 -- a byte at a place, each next one at the next place; past the table nothing is written
 unfoldable pub put_all : List ℕ → ℕ → List ℕ → List ℕ

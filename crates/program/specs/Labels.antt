@@ -1,6 +1,7 @@
 -- What stands in the table for a label, whether that label is there or not: its environment, and the numbers of its entries. Assumes nothing.
 use Rattle.std.specs.Prelude.{◌⊎◌}
-use Rattle.rules.specs.Prelude.{ℕ, ◌+◌, ◌*◌, ◌≤◌, List}
+use Rattle.std.specs.Prelude.{◌+◌, ◌*◌, ◌≤◌}
+use Rattle.rules.specs.Prelude.{ℕ, List}
 use Rattle.rules.specs.declared.Env.{Env}
 use Rattle.rules.specs.Limits.{limits}
 use Rattle.rules.specs.Text.Layout.{cell, label_width}

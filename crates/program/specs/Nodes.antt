@@ -1,5 +1,6 @@
 -- Nodes in preorder: how many operands a form has, the node after a tree, and the nodes that are a tree by themselves. Assumes nothing.
-use Rattle.rules.specs.Prelude.{ℕ, ◌/◌, Bool, ◌&&◌, ◌||◌, List, ltb, eqb, get_or}
+use Rattle.std.specs.Prelude.{◌/◌, ◌&&◌, ◌||◌}
+use Rattle.rules.specs.Prelude.{ℕ, Bool, List, ltb, eqb, get_or}
 use Rattle.rules.specs.Limits.{limits}
 use Rattle.rules.specs.View.{Form, none, lit_f, var_f, fetch_f, int_f, val_f, step_f, calc, Walked, walked}
 

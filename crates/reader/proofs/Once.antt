@@ -3,7 +3,8 @@ use mathlib.Core.Logic.{⊎_elim}
 use native.Mathlib.Nat.{eq-zero-or-pos}
 use native.Mathlib.Omega.{arith}
 use borrow.Author.Tests.{eq-eqb, ne_eqb}
-use Rattle.rules.specs.Prelude.{ℕ, ◌+◌, ◌-◌, ◌≤◌, ◌<◌, Bool, true, false, List, ◌≡◌, refl, sym, ap, subst, ◌∙◌, eqb, length}
+use Rattle.std.specs.Prelude.{◌+◌, ◌-◌, ◌≤◌, ◌<◌, ◌≡◌}
+use Rattle.rules.specs.Prelude.{ℕ, Bool, true, false, List, refl, sym, ap, subst, ◌∙◌, eqb, length}
 use Rattle.rules.specs.declared.Count.{Count}
 use Rattle.rules.specs.declared.Next.{Next}
 use Rattle.rules.specs.declared.Next.TheVariants as N

@@ -1,5 +1,6 @@
 -- The entries of a label, read once: what is written while their shape is tested, up to the first wrong byte. Assumes nothing.
-use Rattle.rules.specs.Prelude.{ℕ, zero, suc, ◌+◌, List, eqb}
+use Rattle.std.specs.Prelude.{◌+◌}
+use Rattle.rules.specs.Prelude.{ℕ, zero, suc, List, eqb}
 use Rattle.rules.specs.declared.Reading.{Reading}
 use Rattle.rules.specs.declared.Reading.TheVariants.{Got, Bad}
 use Rattle.rules.specs.declared.Next.{Next}

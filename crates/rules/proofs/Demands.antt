@@ -1,5 +1,6 @@
 -- Demand 3, of the definitions, from the bytes of two texts. The three demands of the code stand in crates/demands/specs/Demands.antt, and rest on this one. Assumes nothing.
-use Rattle.rules.specs.Prelude.{ℕ, List, ◌≡◌, Stuck}
+use Rattle.std.specs.Prelude.{◌≡◌}
+use Rattle.rules.specs.Prelude.{ℕ, List, Stuck}
 use Rattle.rules.specs.Answers.{accepted}
 use Rattle.rules.specs.Program.{Prog}
 use Rattle.rules.specs.View.{program}

@@ -1,6 +1,7 @@
 -- The starred bench examples, from quoted text, under one statement. Assumes nothing.
 use Prim.Native.String.{String}
-use Rattle.rules.specs.Prelude.{ℕ, List, ◌++◌, ◌≡◌, refl}
+use Rattle.std.specs.Prelude.{◌++◌, ◌≡◌}
+use Rattle.rules.specs.Prelude.{ℕ, List, refl}
 use Rattle.rules.specs.Bytes.{bytes}
 use Rattle.rules.specs.Answers.{answer}
 use Rattle.rules.specs.Check.{checks, verdict}

@@ -6,7 +6,8 @@
 -- 12 a body line after `goto` or `return` that is no label · 13 last line of the file is neither `goto` nor `return`
 -- Store: 21 too long, line 0 · 22 shape, or too few or many `arg` lines · 23 limit · 24 row or block absent
 -- 25 tag not in the row or wrong number of cells · 26 a cell does not fit `any,0,any` · 27 an argument does not fit
-use Rattle.rules.specs.Prelude.{ℕ, ◌+◌, ◌-◌, Bool, List, [], ◌∷◌, ltb, eqb, get_or, Answer, Verdict}
+use Rattle.std.specs.Prelude.{◌+◌, ◌-◌, ◌∷◌}
+use Rattle.rules.specs.Prelude.{ℕ, Bool, List, [], ltb, eqb, get_or, Answer, Verdict}
 use Rattle.rules.specs.Prelude.C
 use Rattle.rules.specs.When.{One, when}
 

@@ -1,5 +1,6 @@
 -- Typing, the statements: the rule of each, 6 to 12 line by line, then 13. Assumes nothing.
-use Rattle.rules.specs.Prelude.{ℕ, ◌+◌, Bool, true, false, ◌&&◌, List, [], ◌∷◌, ◌++◌, map, ltb, length, Num, Boxed, Entry, Env, Kind, Cint, Value, Answer, Judged, No, Ok, Addr, Line}
+use Rattle.std.specs.Prelude.{◌+◌, ◌&&◌, ◌∷◌, ◌++◌}
+use Rattle.rules.specs.Prelude.{ℕ, Bool, true, false, List, [], map, ltb, length, Num, Boxed, Entry, Env, Kind, Cint, Value, Answer, Judged, No, Ok, Addr, Line}
 use Rattle.rules.specs.Prelude.B
 use Rattle.rules.specs.Prelude.G
 use Rattle.rules.specs.Prelude.A

@@ -1,5 +1,6 @@
 -- Typing, the environments: one entry for each variable; how they start; when one covers another. Assumes nothing.
-use Rattle.rules.specs.Prelude.{ℕ, zero, suc, Bool, true, false, ◌&&◌, List, ltb, length, get_or, set, Num, Boxed, Offset, Tag, Entry, Env, Kind, Cint, Value}
+use Rattle.std.specs.Prelude.{◌&&◌}
+use Rattle.rules.specs.Prelude.{ℕ, zero, suc, Bool, true, false, List, ltb, length, get_or, set, Num, Boxed, Offset, Tag, Entry, Env, Kind, Cint, Value}
 use Rattle.rules.specs.Prelude.B
 use Rattle.rules.specs.Prelude.I
 use Rattle.rules.specs.Prelude.G

@@ -1,6 +1,7 @@
 -- The machine: a datum, a block, what an expression gives, what a line does, steps and runs. Assumes nothing.
 pub mod Tables
-use Rattle.rules.specs.Prelude.{ℕ, zero, suc, ◌+◌, Bool, true, false, not, ◌&&◌, List, [], ltb, eqb, ℤ, pos, negsuc, ◌+ℤ◌, length, get_or, set, Num, Op, Datum, Int, Imm, Place, Given, Stuck, Has, Act, Stepped}
+use Rattle.std.specs.Prelude.{◌+◌, ◌&&◌, ◌+ℤ◌}
+use Rattle.rules.specs.Prelude.{ℕ, zero, suc, Bool, true, false, not, List, [], ltb, eqb, ℤ, pos, negsuc, length, get_or, set, Num, Op, Datum, Int, Imm, Place, Given, Stuck, Has, Act, Stepped}
 use Rattle.rules.specs.Prelude.D
 use Rattle.rules.specs.Prelude.S
 use Rattle.rules.specs.When.{need, One}

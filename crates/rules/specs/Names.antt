@@ -1,5 +1,6 @@
 -- 4: a row, variable or label named that does not exist. 5: entry of an int variable that is not `any,0,T`. Line by line, 4 first. Assumes nothing.
-use Rattle.rules.specs.Prelude.{ℕ, Bool, true, false, ◌&&◌, List, [], ◌∷◌, ◌++◌, map, Boxed, Entry, Kind, Cint, Value, Answer}
+use Rattle.std.specs.Prelude.{◌&&◌, ◌∷◌, ◌++◌}
+use Rattle.rules.specs.Prelude.{ℕ, Bool, true, false, List, [], map, Boxed, Entry, Kind, Cint, Value, Answer}
 use Rattle.rules.specs.Prelude.B
 use Rattle.rules.specs.When.{need, One}
 use Rattle.rules.specs.Answers.{first, answers}

@@ -2,7 +2,8 @@
 use Rattle.std.specs.Int.Signed.{lt_z}
 use Rattle.std.specs.Int.{w32}
 use Rattle.std.proofs.Common.{to_z, of_z}
-use Rattle.rules.specs.Prelude.{ℕ, ◌-◌, ◌%◌, Bool, true, false, ltb, eqb, ℤ, pos, negsuc, ◌+ℤ◌, ◌-ℤ◌, ◌*ℤ◌, Num, Psi, Inf, Upto, Op}
+use Rattle.std.specs.Prelude.{◌-◌, ◌%◌, ◌+ℤ◌, ◌-ℤ◌, ◌*ℤ◌}
+use Rattle.rules.specs.Prelude.{ℕ, Bool, true, false, ltb, eqb, ℤ, pos, negsuc, Num, Psi, Inf, Upto, Op}
 use Rattle.rules.specs.Prelude.O
 use Rattle.rules.specs.When.{One}
 

@@ -1,5 +1,6 @@
 -- A glue program as lists and trees, and its parts by number. No table is here. Assumes nothing.
-use Rattle.rules.specs.Prelude.{ℕ, Bool, true, false, ◌&&◌, List, [], ltb, eqb, length, get_or, Num, Boxed, Offset, Tag, Entry, Kind, Cint, Value, Psi, Upto, Op}
+use Rattle.std.specs.Prelude.{◌&&◌}
+use Rattle.rules.specs.Prelude.{ℕ, Bool, true, false, List, [], ltb, eqb, length, get_or, Num, Boxed, Offset, Tag, Entry, Kind, Cint, Value, Psi, Upto, Op}
 use Rattle.rules.specs.Prelude.B
 use Rattle.rules.specs.Prelude.I
 use Rattle.rules.specs.Prelude.G

@@ -1,7 +1,8 @@
 -- The published rules, Figures 8 and 9 of source document 004, as document 01 has them: a constructor a rule, under the rule's name. Relations only, no proof. Assumes nothing.
 -- To read beside the figures: mt is the number of a row of ρ, {B, I, T} is `entry B I T`, ⊤ is `any`, and Γ(x) is the declared kind of x with its entry in Γ. Calls, C pointers and protection are left out.
 use Rattle.std.specs.Prelude.{T}
-use Rattle.rules.specs.Prelude.{ℕ, ◌<◌, Bool, true, false, List, [], ◌∷◌, ◌≡◌, pos, ◌+ℤ◌, length, get_or, Num, Boxed, Tag, Entry, Env, Kind, Cint, Value, Psi, Inf, Upto, Op}
+use Rattle.std.specs.Prelude.{◌<◌, ◌∷◌, ◌≡◌, ◌+ℤ◌}
+use Rattle.rules.specs.Prelude.{ℕ, Bool, true, false, List, [], pos, length, get_or, Num, Boxed, Tag, Entry, Env, Kind, Cint, Value, Psi, Inf, Upto, Op}
 use Rattle.rules.specs.Prelude.B
 use Rattle.rules.specs.Prelude.I
 use Rattle.rules.specs.Prelude.G

@@ -1,5 +1,6 @@
 -- Two programs: the answer to glue text and store text joined, and what the programs print. Assumes nothing.
-use Rattle.rules.specs.Prelude.{ℕ, zero, suc, ◌+◌, ◌/◌, ◌%◌, Bool, true, false, List, [], ◌∷◌, ◌++◌, ltb, eqb, ℤ, pos, negsuc, get_or, take, drop, Answer, Int, Imm, Place, Given, Stuck, Has, State}
+use Rattle.std.specs.Prelude.{◌+◌, ◌/◌, ◌%◌, ◌∷◌, ◌++◌}
+use Rattle.rules.specs.Prelude.{ℕ, zero, suc, Bool, true, false, List, [], ltb, eqb, ℤ, pos, negsuc, get_or, take, drop, Answer, Int, Imm, Place, Given, Stuck, Has, State}
 use Rattle.rules.specs.Prelude.Q
 use Rattle.rules.specs.When.{One, when}
 use Rattle.rules.specs.Bytes.{bytes}

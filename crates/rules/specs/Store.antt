@@ -1,7 +1,8 @@
 -- The store text beside a program that was read: 21; 22 and 23; 24; 25 to 27; with the store's tables, zero on a refusal. Assumes nothing.
 pub mod Text
 pub mod Fill
-use Rattle.rules.specs.Prelude.{ℕ, suc, ◌+◌, List, [], ◌∷◌, ◌++◌, map, ltb, length, Answer}
+use Rattle.std.specs.Prelude.{◌+◌, ◌∷◌, ◌++◌}
+use Rattle.rules.specs.Prelude.{ℕ, suc, List, [], map, ltb, length, Answer}
 use Rattle.rules.specs.When.{One, when}
 use Rattle.rules.specs.Limits.{limits}
 use Rattle.rules.specs.Answers.{answer, and_then, passes, first, answers}

@@ -3,7 +3,8 @@ pub mod Words
 pub mod Shape
 pub mod Layout
 pub mod Fill
-use Rattle.rules.specs.Prelude.{ℕ, zero, suc, ◌+◌, true, false, List, ltb, eqb, length, Answer, Reading, Got, Bad, Next, Count}
+use Rattle.std.specs.Prelude.{◌+◌}
+use Rattle.rules.specs.Prelude.{ℕ, zero, suc, true, false, List, ltb, eqb, length, Answer, Reading, Got, Bad, Next, Count}
 use Rattle.rules.specs.Prelude.N
 use Rattle.rules.specs.When.{One, when}
 use Rattle.rules.specs.Limits.{limits}

@@ -1,5 +1,6 @@
 -- Typing, the expressions: a kind with an entry, or the answer's number. Operands are judged left to right, then the form itself, its tests in the order named. Assumes nothing.
-use Rattle.rules.specs.Prelude.{ℕ, Bool, true, false, ◌&&◌, List, ltb, eqb, pos, ◌+ℤ◌, get_or, Num, Boxed, Offset, Tag, Entry, Env, Kind, Cint, Value, Psi, Inf, Upto, Op, Judged, No, Ok, Addr}
+use Rattle.std.specs.Prelude.{◌&&◌, ◌+ℤ◌}
+use Rattle.rules.specs.Prelude.{ℕ, Bool, true, false, List, ltb, eqb, pos, get_or, Num, Boxed, Offset, Tag, Entry, Env, Kind, Cint, Value, Psi, Inf, Upto, Op, Judged, No, Ok, Addr}
 use Rattle.rules.specs.Prelude.B
 use Rattle.rules.specs.Prelude.I
 use Rattle.rules.specs.Prelude.G

@@ -1,5 +1,6 @@
 -- What the tables mean: any numbers in them give a program. 0 names nothing; past a table's end is 0. Assumes nothing.
-use Rattle.rules.specs.Prelude.{ℕ, zero, suc, ◌+◌, ◌-◌, ◌*◌, ◌/◌, ◌%◌, List, [], ◌∷◌, ltb, eqb, get_or, Boxed, Offset, Tag, Entry, Kind, Cint, Value, Psi, Inf, Upto, Op}
+use Rattle.std.specs.Prelude.{◌+◌, ◌-◌, ◌*◌, ◌/◌, ◌%◌, ◌∷◌}
+use Rattle.rules.specs.Prelude.{ℕ, zero, suc, List, [], ltb, eqb, get_or, Boxed, Offset, Tag, Entry, Kind, Cint, Value, Psi, Inf, Upto, Op}
 use Rattle.rules.specs.Prelude.B
 use Rattle.rules.specs.Prelude.I
 use Rattle.rules.specs.Prelude.G

@@ -1,6 +1,7 @@
 -- What it means that a machine has not gone wrong. Assumes nothing.
 use Rattle.std.specs.Prelude.{T}
-use Rattle.rules.specs.Prelude.{ℕ, ◌<◌, ◌≡◌, length, get_or, Given, Stuck, Has}
+use Rattle.std.specs.Prelude.{◌<◌, ◌≡◌}
+use Rattle.rules.specs.Prelude.{ℕ, length, get_or, Given, Stuck, Has}
 use Rattle.rules.specs.Prelude.S
 use Rattle.rules.specs.Program.{Prog, kind_at, loosest, no_entry}
 use Rattle.rules.specs.Machine.{Store, row_in, tag_in, cells_in, Machine, says}

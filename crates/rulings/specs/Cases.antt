@@ -1,5 +1,6 @@
 -- A case: what a program prints for a text, and what it is to print. A list of cases holds if none of them differs. Assumes nothing.
-use Rattle.rules.specs.Prelude.{ℕ, zero, suc, ◌+◌, Bool, true, false, List, [], ◌∷◌, ◌++◌, eqb}
+use Rattle.std.specs.Prelude.{◌+◌, ◌∷◌, ◌++◌}
+use Rattle.rules.specs.Prelude.{ℕ, zero, suc, Bool, true, false, List, [], eqb}
 use Rattle.rules.specs.When.{when}
 use Rattle.rules.specs.Bytes.{bytes}
 use Rattle.rules.specs.Answers.{answer}

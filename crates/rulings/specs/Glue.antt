@@ -1,5 +1,6 @@
 -- Glue texts and their answers, by the rulings that they show. Assumes nothing.
-use Rattle.rules.specs.Prelude.{ℕ, List, [], ◌∷◌, ◌++◌, ◌≡◌, refl}
+use Rattle.std.specs.Prelude.{◌∷◌, ◌++◌, ◌≡◌}
+use Rattle.rules.specs.Prelude.{ℕ, List, [], refl}
 use Rattle.rules.specs.Bytes.{bytes}
 use Rattle.rules.proofs.Starred.{standard}
 use Rattle.rules.specs.Run.{runs}

@@ -1,5 +1,6 @@
 -- Glue text and store text joined: the listing, bench example 14, store texts that are refused, and what the running program prints. Assumes nothing.
-use Rattle.rules.specs.Prelude.{ℕ, List, [], ◌∷◌, ◌++◌, ◌≡◌, refl}
+use Rattle.std.specs.Prelude.{◌∷◌, ◌++◌, ◌≡◌}
+use Rattle.rules.specs.Prelude.{ℕ, List, [], refl}
 use Rattle.rules.specs.Bytes.{bytes}
 use Rattle.rules.specs.Run.{runs}
 use Rattle.rulings.specs.Cases.{Case, refused, runs_to, times, differing}

@@ -1,5 +1,6 @@
 -- Limits that take a long text. Assumes nothing.
-use Rattle.rules.specs.Prelude.{List, [], ◌∷◌, ◌++◌, ◌≡◌, refl}
+use Rattle.std.specs.Prelude.{◌∷◌, ◌++◌, ◌≡◌}
+use Rattle.rules.specs.Prelude.{List, [], refl}
 use Rattle.rules.specs.Bytes.{bytes}
 use Rattle.rules.specs.Run.{runs}
 use Rattle.rulings.specs.Cases.{Case, glue, times, differing}

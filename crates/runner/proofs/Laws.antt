@@ -5,7 +5,8 @@ use lib.ListN.{take-append-drop}
 use lib.Seq.{take_all}
 use borrow.Table.Elements.{length_app}
 use lib.Seq.{length-take-le}
-use Rattle.rules.specs.Prelude.{ℕ, suc, ◌-◌, ◌≤◌, Bool, true, false, List, [], ◌∷◌, ◌≡◌, sym, ap, subst, ◌∙◌, eqb, length, get_or, take, drop}
+use Rattle.std.specs.Prelude.{◌-◌, ◌≤◌, ◌∷◌, ◌≡◌}
+use Rattle.rules.specs.Prelude.{ℕ, suc, Bool, true, false, List, [], sym, ap, subst, ◌∙◌, eqb, length, get_or, take, drop}
 use Rattle.rules.specs.declared.Answer.{Answer}
 use Rattle.rules.specs.declared.Verdict.{Verdict}
 use Rattle.rules.specs.When.{when}

@@ -1,6 +1,7 @@
 -- What the readers of words answer, for callers: where they end, and how large what was read is. Assumes nothing.
 use native.Mathlib.Omega.{arith}
-use Rattle.rules.specs.Prelude.{ℕ, ◌+◌, ◌≤◌, max, List, length}
+use Rattle.std.specs.Prelude.{◌+◌, ◌≤◌}
+use Rattle.rules.specs.Prelude.{ℕ, max, List, length}
 use Rattle.rules.specs.declared.Reading.{Reading}
 use Rattle.rules.specs.Bytes.{bytes}
 use Rattle.rules.specs.Text.Shape.{kind_word, inf_word, psi_at, boxed_at, any_word, or_raised, offset_at, tag_at, key_at}

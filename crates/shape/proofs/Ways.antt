@@ -5,7 +5,8 @@ use native.Mathlib.Numerals.{sub-one}
 use native.Mathlib.Omega.{arith}
 use lib.ListN.{get_or-eq_default}
 use borrow.Author.Tests.{eq-eqb, ne_eqb, eqb-true}
-use Rattle.rules.specs.Prelude.{ℕ, zero, suc, ◌+◌, ◌-◌, ◌<◌, ◌≤◌, Bool, true, false, ◌||◌, List, [], ◌∷◌, ◌≡◌, refl, sym, ◌∙◌, ltb, eqb}
+use Rattle.std.specs.Prelude.{◌+◌, ◌-◌, ◌<◌, ◌≤◌, ◌||◌, ◌∷◌, ◌≡◌}
+use Rattle.rules.specs.Prelude.{ℕ, zero, suc, Bool, true, false, List, [], refl, sym, ◌∙◌, ltb, eqb}
 use Rattle.rules.specs.declared.Reading.{Reading}
 use Rattle.rules.specs.declared.Reading.TheVariants.{Got, Bad}
 use Rattle.rules.specs.declared.Next.{Next}

@@ -1,5 +1,6 @@
 -- A block's head written, with its row as it stands, plus 1: so every number that a table can hold can be given. Assumes nothing.
-use Rattle.rules.specs.Prelude.{ℕ, ◌+◌, ◌*◌, List, set}
+use Rattle.std.specs.Prelude.{◌+◌, ◌*◌}
+use Rattle.rules.specs.Prelude.{ℕ, List, set}
 use Rattle.rules.specs.Machine.Tables.{head_width}
 
 unfoldable pub head_put : List ℕ → ℕ → ℕ → ℕ → ℕ → List ℕ

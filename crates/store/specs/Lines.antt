@@ -1,5 +1,6 @@
 -- What one function of the code gives at once: a block line's numbers, and what a variable starts as. And where in a text the code may look. Assumes nothing.
-use Rattle.rules.specs.Prelude.{ℕ, ◌≤◌, List, length}
+use Rattle.std.specs.Prelude.{◌≤◌}
+use Rattle.rules.specs.Prelude.{ℕ, List, length}
 use Rattle.rules.specs.When.{when}
 use Rattle.rules.specs.Limits.{limits}
 use Rattle.rules.specs.Text.Words.{value_of}

@@ -1,5 +1,6 @@
 -- An answer and four tables are what the rules say of a store text. Assumes nothing.
-use Rattle.rules.specs.Prelude.{ℕ, List, ◌≡◌}
+use Rattle.std.specs.Prelude.{◌≡◌}
+use Rattle.rules.specs.Prelude.{ℕ, List}
 use Rattle.rules.specs.declared.Answer.{Answer}
 use Rattle.rules.specs.Store.Fill.{StoreTables}
 use Rattle.rules.specs.Store.{StoreOut}

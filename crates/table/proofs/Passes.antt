@@ -4,7 +4,8 @@ use native.Mathlib.Numerals.{add-one}
 use lib.ListN.{drop_of_length-le}
 use lib.Seq.{drop-cons}
 use borrow.Author.Tests.{ne_eqb}
-use Rattle.rules.specs.Prelude.{ℕ, ◌+◌, ◌<◌, ◌≤◌, Bool, true, false, ◌&&◌, List, [], ◌∷◌, ◌++◌, map, ◌≡◌, refl, sym, ap, ◌∙◌, eqb, length, get_or, drop}
+use Rattle.std.specs.Prelude.{◌+◌, ◌<◌, ◌≤◌, ◌&&◌, ◌∷◌, ◌++◌, ◌≡◌}
+use Rattle.rules.specs.Prelude.{ℕ, Bool, true, false, List, [], map, refl, sym, ap, ◌∙◌, eqb, length, get_or, drop}
 use Rattle.rules.specs.declared.Answer.{Answer}
 use Rattle.rules.specs.When.{One}
 use Rattle.rules.specs.Answers.{answer, accepted, and_then, first}

@@ -1,5 +1,6 @@
 -- The answer to a store text as far as its shape and limits go, with its counts; and counts that are few enough to go on with. Assumes nothing.
-use Rattle.rules.specs.Prelude.{ℕ, ◌+◌, ◌≤◌, List, ltb, length}
+use Rattle.std.specs.Prelude.{◌+◌, ◌≤◌}
+use Rattle.rules.specs.Prelude.{ℕ, List, ltb, length}
 use Rattle.rules.specs.declared.StoreCount.{StoreCount}
 use Rattle.rules.specs.When.{when}
 use Rattle.rules.specs.Limits.{limits}

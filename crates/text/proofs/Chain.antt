@@ -2,7 +2,8 @@
 use native.Mathlib.Decide.{dec_lt}
 use native.Mathlib.Omega.{arith}
 use borrow.Author.Tests.{eqb-false, ne_eqb}
-use Rattle.rules.specs.Prelude.{ℕ, ◌+◌, ◌<◌, ◌≤◌, max, Bool, true, false, List, [], ◌∷◌, ◌≡◌, refl, sym, ap, ◌∙◌, eqb, length, drop}
+use Rattle.std.specs.Prelude.{◌+◌, ◌<◌, ◌≤◌, ◌∷◌, ◌≡◌}
+use Rattle.rules.specs.Prelude.{ℕ, max, Bool, true, false, List, [], refl, sym, ap, ◌∙◌, eqb, length, drop}
 use Rattle.rules.specs.declared.Reading.{Reading}
 use Rattle.rules.specs.declared.Reading.TheVariants.{Got, Bad}
 use Rattle.rules.specs.When.{when}

@@ -6,7 +6,8 @@ use Prim.Native.Nat.{zero-le, suc-le-suc}
 use lib.ListN.{get_or-eq_default, length-drop}
 use lib.Seq.{drop-cons}
 use borrow.Author.Tests.{ltb-false, eqb-true}
-use Rattle.rules.specs.Prelude.{ℕ, suc, ◌+◌, ◌-◌, ◌*◌, ◌<◌, ◌≤◌, max, true, List, [], ◌∷◌, ◌≡◌, subst, ltb, eqb, length, get_or, drop}
+use Rattle.std.specs.Prelude.{◌+◌, ◌-◌, ◌*◌, ◌<◌, ◌≤◌, ◌∷◌, ◌≡◌}
+use Rattle.rules.specs.Prelude.{ℕ, suc, max, true, List, [], subst, ltb, eqb, length, get_or, drop}
 use Rattle.rules.specs.declared.Reading.{Reading}
 use Rattle.rules.specs.declared.Reading.TheVariants.{Got, Bad}
 use Rattle.rules.specs.declared.Head.{Head}

@@ -1,7 +1,8 @@
 -- What was written is what the rules print, and lies within the table. Assumes nothing.
 use borrow.Table.Elements.{take-le}
 use Rattle.io.specs.Counts.{IsPrefixLen}
-use Rattle.rules.specs.Prelude.{ℕ, ◌≤◌, List, ◌≡◌, sym, ap, subst, ◌∙◌, length, take}
+use Rattle.std.specs.Prelude.{◌≤◌, ◌≡◌}
+use Rattle.rules.specs.Prelude.{ℕ, List, sym, ap, subst, ◌∙◌, length, take}
 use Rattle.rules.specs.declared.Answer.{Answer}
 use Rattle.rules.specs.declared.Verdict.{Verdict}
 use Rattle.rules.specs.Answers.{case_of, answer_of}

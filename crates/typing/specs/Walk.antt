@@ -1,5 +1,6 @@
 -- The judgement of the tree at a node, with the node after it; and a node's judgement from its operands'. Assumes nothing.
-use Rattle.rules.specs.Prelude.{ℕ, List, ◌≡◌, refl}
+use Rattle.std.specs.Prelude.{◌≡◌}
+use Rattle.rules.specs.Prelude.{ℕ, List, refl}
 use Rattle.rules.specs.declared.Env.{Env}
 use Rattle.rules.specs.declared.Kind.TheVariants.{Cint, Value}
 use Rattle.rules.specs.declared.Op.{Op}

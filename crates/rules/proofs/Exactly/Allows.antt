@@ -3,7 +3,8 @@ use Rattle.std.specs.Prelude.{T}
 use Rattle.std.proofs.Common.{ltb→lt, arith as lin}
 use Rattle.std.proofs.Math.IntN.{+ℤ_idr}
 use borrow.Author.Tests.{lt-ltb}
-use Rattle.rules.specs.Prelude.{ℕ, ◌<◌, Bool, true, ◌&&◌, ◌≡◌, refl, sym, ap, subst, ◌∙◌, ◌↔◌, ltb, ℤ, pos, negsuc, length, Num, Boxed, Tag, Entry, Env, Kind, Cint, Value, Judged, No, Ok, Addr, Line}
+use Rattle.std.specs.Prelude.{◌<◌, ◌&&◌, ◌≡◌, ◌↔◌}
+use Rattle.rules.specs.Prelude.{ℕ, Bool, true, refl, sym, ap, subst, ◌∙◌, ltb, ℤ, pos, negsuc, length, Num, Boxed, Tag, Entry, Env, Kind, Cint, Value, Judged, No, Ok, Addr, Line}
 use Rattle.rules.specs.Prelude.B
 use Rattle.rules.specs.Prelude.I
 use Rattle.rules.specs.Prelude.G

@@ -1,7 +1,8 @@
 -- Programs and texts: the checker accepts exactly what the published rules derive. Assumes nothing.
 use Rattle.std.specs.Prelude.{T}
 use Rattle.std.proofs.Common.{arith as lin}
-use Rattle.rules.specs.Prelude.{ℕ, ◌+◌, Bool, true, false, List, [], ◌∷◌, ◌++◌, map, ◌≡◌, refl, ap, ◌↔◌, length, Env, Kind, Cint, Value, Answer}
+use Rattle.std.specs.Prelude.{◌+◌, ◌∷◌, ◌++◌, ◌≡◌, ◌↔◌}
+use Rattle.rules.specs.Prelude.{ℕ, Bool, true, false, List, [], map, refl, ap, length, Env, Kind, Cint, Value, Answer}
 use Rattle.rules.specs.When.{when}
 use Rattle.rules.specs.Numbers.{suits}
 use Rattle.rules.specs.Answers.{accepted}

@@ -3,7 +3,8 @@ use Rattle.std.specs.Prelude.{T}
 use Rattle.std.proofs.Common.{ltb→lt, eqb→eq, lt-ltb}
 use Rattle.std.proofs.Math.IntN.{+ℤ_idl, +ℤ_idr}
 use native.Mathlib.Omega.{arith as lin}
-use Rattle.rules.specs.Prelude.{ℕ, ◌+◌, ◌<◌, true, ◌&&◌, List, ◌≡◌, refl, ap, ap₂, subst, ◌↔◌, ltb, eqb, ℤ, pos, negsuc, ◌+ℤ◌, Num, Boxed, Offset, Tag, Entry, Env, Kind, Cint, Value, Psi, Inf, Upto, Op, Judged, No, Ok, Addr}
+use Rattle.std.specs.Prelude.{◌+◌, ◌<◌, ◌&&◌, ◌≡◌, ◌↔◌, ◌+ℤ◌}
+use Rattle.rules.specs.Prelude.{ℕ, true, List, refl, ap, ap₂, subst, ltb, eqb, ℤ, pos, negsuc, Num, Boxed, Offset, Tag, Entry, Env, Kind, Cint, Value, Psi, Inf, Upto, Op, Judged, No, Ok, Addr}
 use Rattle.rules.specs.Prelude.B
 use Rattle.rules.specs.Prelude.I
 use Rattle.rules.specs.Prelude.G

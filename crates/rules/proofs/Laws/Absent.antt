@@ -3,7 +3,8 @@ use Rattle.std.specs.Prelude.{T}
 use Rattle.std.proofs.Math.ListN.{get_or-eq_default}
 use borrow.Author.Tests.{ltb-false}
 use Rattle.std.proofs.Common.{arith as lin}
-use Rattle.rules.specs.Prelude.{ℕ, ◌≤◌, Bool, true, false, not, ◌&&◌, List, ◌≡◌, refl, ltb, eqb, pos, ◌+ℤ◌, length, Num, Op, Int, Imm, Place, Given, Stuck, Has, Act}
+use Rattle.std.specs.Prelude.{◌≤◌, ◌&&◌, ◌≡◌, ◌+ℤ◌}
+use Rattle.rules.specs.Prelude.{ℕ, Bool, true, false, not, List, refl, ltb, eqb, pos, length, Num, Op, Int, Imm, Place, Given, Stuck, Has, Act}
 use Rattle.rules.specs.Prelude.D
 use Rattle.rules.specs.When.{need}
 use Rattle.rules.specs.Numbers.{same_num, zero_n, eq_z}

@@ -1,7 +1,8 @@
 -- The answer is 0 exactly if its line is 0 and no stage refuses. Assumes nothing.
 use Rattle.std.proofs.lemmas.Bool.{eqb-false}
 use Rattle.std.proofs.Common.{ne_eqb, arith as lin}
-use Rattle.rules.specs.Prelude.{ℕ, zero, suc, ◌+◌, List, ◌≡◌, ap, ◌↔◌, ltb, eqb, length, Answer, Count}
+use Rattle.std.specs.Prelude.{◌+◌, ◌≡◌, ◌↔◌}
+use Rattle.rules.specs.Prelude.{ℕ, zero, suc, List, ap, ltb, eqb, length, Answer, Count}
 use Rattle.rules.specs.Limits.{limits}
 use Rattle.rules.specs.Answers.{answer, accepted, and_then}
 use Rattle.rules.specs.Text.Layout.{Tables, nothing, zeros}

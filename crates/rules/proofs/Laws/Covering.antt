@@ -1,6 +1,7 @@
 -- Covering is reflexive and transitive, of entries and of environments. Assumes nothing.
 use Rattle.std.specs.Prelude.{T}
-use Rattle.rules.specs.Prelude.{ℕ, zero, suc, ◌&&◌, List, ◌≡◌, subst, get_or, Num, Boxed, Offset, Tag, Entry, Env}
+use Rattle.std.specs.Prelude.{◌&&◌, ◌≡◌}
+use Rattle.rules.specs.Prelude.{ℕ, zero, suc, List, subst, get_or, Num, Boxed, Offset, Tag, Entry, Env}
 use Rattle.rules.specs.Prelude.B
 use Rattle.rules.specs.Prelude.I
 use Rattle.rules.specs.Prelude.G

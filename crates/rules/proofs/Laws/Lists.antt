@@ -1,6 +1,7 @@
 -- Lists that views are made of: their lengths, their elements, and one element written. Assumes nothing.
 use Rattle.std.proofs.Common.{ltb-false, arith as lin}
-use Rattle.rules.specs.Prelude.{ℕ, zero, suc, ◌<◌, ◌≤◌, Bool, true, false, ◌∷◌, ◌≡◌, refl, ap, ap₂, ltb, length, get_or, set}
+use Rattle.std.specs.Prelude.{◌<◌, ◌≤◌, ◌∷◌, ◌≡◌}
+use Rattle.rules.specs.Prelude.{ℕ, zero, suc, Bool, true, false, refl, ap, ap₂, ltb, length, get_or, set}
 use Rattle.rules.specs.View.{tab, up_to}
 
 pub tab_length : {A : Type 0} (n : ℕ) (f : ℕ → A) → length (tab n f) ≡ n

@@ -4,7 +4,8 @@ use Rattle.std.proofs.Math.Arith.{digits_div, digits_mod}
 use Rattle.std.specs.Int.{w32}
 use Rattle.std.proofs.Common.{of_z, SFits, mod-lt, mod-eq_of_lt, arith as lin, ne_eqb}
 use mir.ValLaws.{to_z-of_z, to_z-Fits}
-use Rattle.rules.specs.Prelude.{ℕ, ◌+◌, ◌-◌, ◌/◌, ◌%◌, ◌<◌, Bool, true, false, ◌≡◌, ap, ◌∙◌, eqb, ℤ, pos, negsuc, Num, Op, Datum, Int, Imm, Place, Given, Stuck, Has}
+use Rattle.std.specs.Prelude.{◌+◌, ◌-◌, ◌/◌, ◌%◌, ◌<◌, ◌≡◌}
+use Rattle.rules.specs.Prelude.{ℕ, Bool, true, false, ap, ◌∙◌, eqb, ℤ, pos, negsuc, Num, Op, Datum, Int, Imm, Place, Given, Stuck, Has}
 use Rattle.rules.specs.Prelude.O
 use Rattle.rules.specs.When.{when}
 use Rattle.rules.specs.Numbers.{same_num, num, num_code, word_of, low32, wrap32, one_if, arith_of}

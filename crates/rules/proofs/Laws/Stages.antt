@@ -2,7 +2,8 @@
 use Rattle.std.specs.Prelude.{T}
 use Rattle.std.proofs.Common.{eqb-true, arith as lin}
 use Rattle.std.proofs.lemmas.Bool.{eqb-false}
-use Rattle.rules.specs.Prelude.{ℕ, ◌+◌, ◌<◌, Bool, true, false, List, [], ◌∷◌, ◌++◌, map, ◌≡◌, refl, ap, ◌↔◌, eqb, Answer}
+use Rattle.std.specs.Prelude.{◌+◌, ◌<◌, ◌∷◌, ◌++◌, ◌≡◌, ◌↔◌}
+use Rattle.rules.specs.Prelude.{ℕ, Bool, true, false, List, [], map, refl, ap, eqb, Answer}
 use Rattle.rules.specs.When.{One, need}
 use Rattle.rules.specs.Answers.{answer, accepted, passes, and_then, first}
 use Rattle.rules.proofs.Laws.Tests.{by_when}

@@ -2,7 +2,8 @@
 use Rattle.std.specs.Prelude.{T}
 use Rattle.std.proofs.Common.{eqb→eq}
 use Rattle.std.proofs.Math.Dec.{eqb_refl}
-use Rattle.rules.specs.Prelude.{Bool, true, false, ◌&&◌, ◌≡◌, refl, ap, ℤ, pos, negsuc, Num}
+use Rattle.std.specs.Prelude.{◌&&◌, ◌≡◌}
+use Rattle.rules.specs.Prelude.{Bool, true, false, refl, ap, ℤ, pos, negsuc, Num}
 use Rattle.rules.specs.When.{One, when, need}
 use Rattle.rules.specs.Numbers.{num, eq_z, same_num}
 

@@ -3,7 +3,8 @@ pub mod Numbers
 pub mod Glue
 pub mod Store
 use Rattle.std.proofs.Common.{ltb→lt}
-use Rattle.rules.specs.Prelude.{ℕ, ◌<◌, List, ◌≡◌, refl, sym, ap, ◌∙◌, Verdict}
+use Rattle.std.specs.Prelude.{◌<◌, ◌≡◌}
+use Rattle.rules.specs.Prelude.{ℕ, List, refl, sym, ap, ◌∙◌, Verdict}
 use Rattle.rules.specs.Prelude.C
 use Rattle.rules.specs.Answers.{answer_of, case_of}
 use Rattle.rules.specs.Program.{Prog}

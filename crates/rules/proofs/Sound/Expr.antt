@@ -3,7 +3,8 @@ use Rattle.std.proofs.Math.ListN.{get_or-eq_default}
 use Rattle.std.proofs.Common.{ltb-false, lt-ltb, ltb-true, ltb→lt, eqb→eq, arith as lin}
 use Rattle.std.specs.Prelude.{T}
 use Rattle.std.proofs.Math.IntN.{+ℤ_idr}
-use Rattle.rules.specs.Prelude.{ℕ, zero, suc, ◌<◌, ◌≤◌, Bool, true, false, ◌&&◌, List, [], ◌≡◌, refl, sym, ap, ap₂, subst, ◌∙◌, ltb, eqb, ℤ, pos, negsuc, ◌+ℤ◌, length, get_or, Num, Boxed, Offset, Tag, Entry, Env, Cint, Value, Psi, Inf, Upto, Op, Judged, No, Ok, Addr, Datum, Int, Imm, Place, Given, Stuck, Has}
+use Rattle.std.specs.Prelude.{◌<◌, ◌≤◌, ◌&&◌, ◌≡◌, ◌+ℤ◌}
+use Rattle.rules.specs.Prelude.{ℕ, zero, suc, Bool, true, false, List, [], refl, sym, ap, ap₂, subst, ◌∙◌, ltb, eqb, ℤ, pos, negsuc, length, get_or, Num, Boxed, Offset, Tag, Entry, Env, Cint, Value, Psi, Inf, Upto, Op, Judged, No, Ok, Addr, Datum, Int, Imm, Place, Given, Stuck, Has}
 use Rattle.rules.specs.Prelude.B
 use Rattle.rules.specs.Prelude.I
 use Rattle.rules.specs.Prelude.G

@@ -2,7 +2,8 @@
 use Rattle.std.proofs.Math.Dec.{eqb_refl}
 use Rattle.std.proofs.Common.{lt→ltb, ltb→lt, eqb→eq, arith as lin}
 use Rattle.std.specs.Prelude.{T}
-use Rattle.rules.specs.Prelude.{ℕ, zero, suc, ◌+◌, ◌<◌, ◌≤◌, ◌&&◌, List, [], ◌∷◌, ◌≡◌, sym, ap, ◌∙◌, ltb, eqb, pos, length, get_or, Num, Boxed, Offset, Tag, Entry, Env, Kind, Cint, Value, Int, Imm, Place, Given, Stuck, Has}
+use Rattle.std.specs.Prelude.{◌+◌, ◌<◌, ◌≤◌, ◌&&◌, ◌∷◌, ◌≡◌}
+use Rattle.rules.specs.Prelude.{ℕ, zero, suc, List, [], sym, ap, ◌∙◌, ltb, eqb, pos, length, get_or, Num, Boxed, Offset, Tag, Entry, Env, Kind, Cint, Value, Int, Imm, Place, Given, Stuck, Has}
 use Rattle.rules.specs.Prelude.B
 use Rattle.rules.specs.Prelude.I
 use Rattle.rules.specs.Prelude.G

@@ -2,7 +2,8 @@
 use Rattle.std.proofs.Math.ListN.{length-set}
 use Rattle.std.proofs.Common.{get_or-set_same, get_or-set_other}
 use Rattle.std.proofs.Math.Decide.{ℕ_discrete}
-use Rattle.rules.specs.Prelude.{ℕ, zero, suc, ◌<◌, List, [], ◌∷◌, ◌≡◌, refl, ◌∙◌, length, get_or, set, Entry, Kind, Cint, Value, Datum, Int, Imm, Place, Given, Stuck, Has}
+use Rattle.std.specs.Prelude.{◌<◌, ◌∷◌, ◌≡◌}
+use Rattle.rules.specs.Prelude.{ℕ, zero, suc, List, [], refl, ◌∙◌, length, get_or, set, Entry, Kind, Cint, Value, Datum, Int, Imm, Place, Given, Stuck, Has}
 use Rattle.rules.specs.Prelude.B
 use Rattle.rules.specs.Prelude.A
 use Rattle.rules.specs.Program.{Rows, loosest, field_of}

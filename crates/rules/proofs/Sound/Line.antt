@@ -6,7 +6,8 @@ use Rattle.std.proofs.Math.ListN.{length-set}
 use borrow.Author.Tests.{lt-ltb, ltb-true, ltb-false}
 use Rattle.std.proofs.lemmas.List.{set-get_or}
 use Rattle.std.proofs.Math.Decide.{ℕ_discrete}
-use Rattle.rules.specs.Prelude.{ℕ, zero, suc, ◌<◌, ◌≤◌, Bool, true, false, not, ◌&&◌, List, ◌≡◌, refl, sym, ap, subst, ◌∙◌, ltb, pos, length, get_or, set, Num, Boxed, Offset, Tag, Entry, Env, Kind, Cint, Value, Judged, No, Ok, Addr, Line, Datum, Int, Imm, Place, Given, Stuck, Has, Act}
+use Rattle.std.specs.Prelude.{◌<◌, ◌≤◌, ◌&&◌, ◌≡◌}
+use Rattle.rules.specs.Prelude.{ℕ, zero, suc, Bool, true, false, not, List, refl, sym, ap, subst, ◌∙◌, ltb, pos, length, get_or, set, Num, Boxed, Offset, Tag, Entry, Env, Kind, Cint, Value, Judged, No, Ok, Addr, Line, Datum, Int, Imm, Place, Given, Stuck, Has, Act}
 use Rattle.rules.specs.Prelude.B
 use Rattle.rules.specs.Prelude.I
 use Rattle.rules.specs.Prelude.G

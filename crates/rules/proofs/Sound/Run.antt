@@ -1,7 +1,8 @@
 -- Runs: a program that is accepted is never stuck, and each state fits its line's environment. Assumes nothing.
 use Rattle.std.proofs.Math.Dec.{T}
 use Rattle.std.proofs.Common.{ltb→lt, eqb→eq, arith as lin, add-one}
-use Rattle.rules.specs.Prelude.{ℕ, zero, suc, ◌+◌, ◌<◌, Bool, true, false, not, ◌&&◌, List, [], ◌∷◌, ◌++◌, map, ◌≡◌, refl, sym, ap, subst, ltb, length, get_or, set, Env, Kind, Answer, Judged, No, Ok, Line, Given, Stuck, Has, Act}
+use Rattle.std.specs.Prelude.{◌+◌, ◌<◌, ◌&&◌, ◌∷◌, ◌++◌, ◌≡◌}
+use Rattle.rules.specs.Prelude.{ℕ, zero, suc, Bool, true, false, not, List, [], map, refl, sym, ap, subst, ltb, length, get_or, set, Env, Kind, Answer, Judged, No, Ok, Line, Given, Stuck, Has, Act}
 use Rattle.rules.specs.Prelude.A
 use Rattle.rules.specs.Prelude.D
 use Rattle.rules.specs.When.{need}

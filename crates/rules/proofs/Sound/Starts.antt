@@ -4,7 +4,8 @@ use Rattle.std.proofs.Common.{lt-ltb}
 use Rattle.std.proofs.Math.ListN.{length-set, length-replicate}
 use Rattle.std.proofs.Math.Seq.{get_or-set_same, get_or-set_other}
 use native.Mathlib.Omega.{arith as lin}
-use Rattle.rules.specs.Prelude.{ℕ, zero, suc, ◌+◌, ◌*◌, ◌<◌, ◌≤◌, Bool, true, false, List, [], ◌∷◌, ◌++◌, map, ◌≡◌, refl, ap, ◌∙◌, ltb, length, get_or, set, Num, Kind, Cint, Value, Answer, StoreCount, Given, Stuck, Has}
+use Rattle.std.specs.Prelude.{◌+◌, ◌*◌, ◌<◌, ◌≤◌, ◌∷◌, ◌++◌, ◌≡◌}
+use Rattle.rules.specs.Prelude.{ℕ, zero, suc, Bool, true, false, List, [], map, refl, ap, ◌∙◌, ltb, length, get_or, set, Num, Kind, Cint, Value, Answer, StoreCount, Given, Stuck, Has}
 use Rattle.rules.specs.When.{when, need}
 use Rattle.rules.specs.Numbers.{suits}
 use Rattle.rules.specs.Limits.{limits}

@@ -3,7 +3,8 @@ use Rattle.std.proofs.Math.Dec.{T, ltb→lt}
 use Rattle.std.proofs.Math.ListN.{length-set}
 use Rattle.std.proofs.Common.{get_or-set_same, get_or-set_other}
 use native.Mathlib.Omega.{arith as lin}
-use Rattle.rules.specs.Prelude.{ℕ, zero, suc, ◌+◌, ◌-◌, ◌*◌, ◌/◌, ◌%◌, ◌<◌, ◌≤◌, Bool, true, false, not, ◌&&◌, List, ◌≡◌, refl, ap, ◌∙◌, ltb, eqb, ℤ, pos, negsuc, ◌+ℤ◌, length, get_or, set, Num, Op, Datum, Int, Imm, Place, Given, Stuck, Has, Act}
+use Rattle.std.specs.Prelude.{◌+◌, ◌-◌, ◌*◌, ◌/◌, ◌%◌, ◌<◌, ◌≤◌, ◌&&◌, ◌≡◌, ◌+ℤ◌}
+use Rattle.rules.specs.Prelude.{ℕ, zero, suc, Bool, true, false, not, List, refl, ap, ◌∙◌, ltb, eqb, ℤ, pos, negsuc, length, get_or, set, Num, Op, Datum, Int, Imm, Place, Given, Stuck, Has, Act}
 use Rattle.rules.specs.Prelude.D
 use Rattle.rules.specs.When.{when}
 use Rattle.rules.specs.Numbers.{eq_z, zero_n, same_num, num_code}

@@ -1,7 +1,8 @@
 -- From two texts: an accepted glue text and a store text that passes start a machine that never goes wrong. Assumes nothing.
 use Rattle.std.proofs.Common.{arith as lin}
 use Rattle.std.specs.Prelude.{T}
-use Rattle.rules.specs.Prelude.{ℕ, ◌+◌, ◌<◌, List, ◌≡◌, refl, sym, ap, subst, ◌∙◌, length, get_or, Given, Stuck, Has, Act}
+use Rattle.std.specs.Prelude.{◌+◌, ◌<◌, ◌≡◌}
+use Rattle.rules.specs.Prelude.{ℕ, List, refl, sym, ap, subst, ◌∙◌, length, get_or, Given, Stuck, Has, Act}
 use Rattle.rules.specs.Prelude.D
 use Rattle.rules.specs.Prelude.S
 use Rattle.rules.specs.Answers.{accepted}

@@ -1,6 +1,7 @@
 -- The machine's tables: what they mean, and a step that alters them where they stand. Assumes nothing.
 -- A datum is one number: its high half 0 nothing, 1 C int, 2 immediate, k + 3 a place in block k; its low half the number's word, or the offset.
-use Rattle.rules.specs.Prelude.{ℕ, zero, suc, ◌+◌, ◌-◌, ◌*◌, ◌/◌, ◌%◌, Bool, List, leb, eqb, length, get_or, set, Datum, Int, Imm, Place, Given, Stuck, Has, Act, Stepped}
+use Rattle.std.specs.Prelude.{◌+◌, ◌-◌, ◌*◌, ◌/◌, ◌%◌}
+use Rattle.rules.specs.Prelude.{ℕ, zero, suc, Bool, List, leb, eqb, length, get_or, set, Datum, Int, Imm, Place, Given, Stuck, Has, Act, Stepped}
 use Rattle.rules.specs.Prelude.D
 use Rattle.rules.specs.Prelude.S
 use Rattle.rules.specs.When.{One, when}

@@ -1,5 +1,6 @@
 -- The store text: 22 and 23 line by line, 22 first. Nothing is kept but counts. Assumes nothing.
-use Rattle.rules.specs.Prelude.{ℕ, zero, suc, ◌+◌, ◌*◌, Bool, ◌&&◌, ◌||◌, List, ltb, leb, eqb, length, Answer, Reading, Got, Bad, StoreCount}
+use Rattle.std.specs.Prelude.{◌+◌, ◌*◌, ◌&&◌, ◌||◌}
+use Rattle.rules.specs.Prelude.{ℕ, zero, suc, Bool, List, ltb, leb, eqb, length, Answer, Reading, Got, Bad, StoreCount}
 use Rattle.rules.specs.When.{One, when}
 use Rattle.rules.specs.Bytes.{bytes}
 use Rattle.rules.specs.Limits.{limits}

@@ -1,5 +1,6 @@
 -- The glue text: what each line of a right shape writes into the tables, and the limits that it may pass (3). Assumes nothing.
-use Rattle.rules.specs.Prelude.{ℕ, zero, suc, ◌+◌, ◌*◌, Bool, true, false, ◌&&◌, List, ltb, eqb, set, Reading, Got, Bad, Head, Node, Not, Filling, Count}
+use Rattle.std.specs.Prelude.{◌+◌, ◌*◌, ◌&&◌}
+use Rattle.rules.specs.Prelude.{ℕ, zero, suc, Bool, true, false, List, ltb, eqb, set, Reading, Got, Bad, Head, Node, Not, Filling, Count}
 use Rattle.rules.specs.Prelude.F
 use Rattle.rules.specs.When.{One, when}
 use Rattle.rules.specs.Limits.{limits}

@@ -1,5 +1,6 @@
 -- The tables of a program, and where each number stands in them. 0 means nothing; what is unused is 0. Assumes nothing.
-use Rattle.rules.specs.Prelude.{ℕ, ◌+◌, ◌*◌, List, [], ◌∷◌, get_or, replicate, Count}
+use Rattle.std.specs.Prelude.{◌+◌, ◌*◌, ◌∷◌}
+use Rattle.rules.specs.Prelude.{ℕ, List, [], get_or, replicate, Count}
 use Rattle.rules.specs.When.{One}
 use Rattle.rules.specs.Limits.{limits}
 

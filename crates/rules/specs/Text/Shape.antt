@@ -1,5 +1,6 @@
 -- The glue text: the shape of each line, however much it holds: the byte after it, or the first wrong byte. Nothing is kept. Assumes nothing.
-use Rattle.rules.specs.Prelude.{ℕ, zero, suc, ◌+◌, ◌-◌, max, Bool, ◌&&◌, ◌||◌, List, [], ◌∷◌, ltb, leb, eqb, length, get_or, Reading, Got, Bad, Next, Head, Node, Not}
+use Rattle.std.specs.Prelude.{◌+◌, ◌-◌, ◌&&◌, ◌||◌, ◌∷◌}
+use Rattle.rules.specs.Prelude.{ℕ, zero, suc, max, Bool, List, [], ltb, leb, eqb, length, get_or, Reading, Got, Bad, Next, Head, Node, Not}
 use Rattle.rules.specs.Prelude.N
 use Rattle.rules.specs.When.{One, when}
 use Rattle.rules.specs.Bytes.{bytes}

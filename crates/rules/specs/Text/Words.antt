@@ -1,5 +1,6 @@
 -- The words of a text, by a place in it: what was read and the next byte, or the first byte at which no right word begins so. Assumes nothing.
-use Rattle.rules.specs.Prelude.{ℕ, suc, ◌+◌, ◌-◌, ◌*◌, max, List, [], ◌∷◌, ltb, eqb, length, get_or, drop, Reading, Got, Bad, Next, Head, Node, Not}
+use Rattle.std.specs.Prelude.{◌+◌, ◌-◌, ◌*◌, ◌∷◌}
+use Rattle.rules.specs.Prelude.{ℕ, suc, max, List, [], ltb, eqb, length, get_or, drop, Reading, Got, Bad, Next, Head, Node, Not}
 use Rattle.rules.specs.Prelude.N
 use Rattle.rules.specs.When.{One, when}
 use Rattle.rules.specs.Bytes.{bytes}

@@ -1,5 +1,6 @@
 -- A glue text: each line of each stage has a number of the first table, so the answer has a case of it. Assumes nothing.
-use Rattle.rules.specs.Prelude.{ℕ, zero, suc, ◌+◌, Bool, true, false, ◌&&◌, List, [], ◌∷◌, ◌++◌, map, refl, ltb, eqb, ◌+ℤ◌, length, Num, Tag, Entry, Env, Kind, Cint, Value, Op, Judged, No, Ok, Addr, Line, Reading, Got, Bad, Next, Count}
+use Rattle.std.specs.Prelude.{◌+◌, ◌&&◌, ◌∷◌, ◌++◌, ◌+ℤ◌}
+use Rattle.rules.specs.Prelude.{ℕ, zero, suc, Bool, true, false, List, [], map, refl, ltb, eqb, length, Num, Tag, Entry, Env, Kind, Cint, Value, Op, Judged, No, Ok, Addr, Line, Reading, Got, Bad, Next, Count}
 use Rattle.rules.specs.Prelude.G
 use Rattle.rules.specs.Prelude.A
 use Rattle.rules.specs.Prelude.N

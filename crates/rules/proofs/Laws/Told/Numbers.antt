@@ -2,7 +2,8 @@
 use Rattle.std.specs.Prelude.{T}
 use Rattle.std.proofs.Common.{eqb-true}
 use Rattle.std.proofs.lemmas.Bool.{eqb-false}
-use Rattle.rules.specs.Prelude.{ℕ, ◌+◌, Bool, true, false, ◌&&◌, ◌||◌, List, [], ◌∷◌, ◌++◌, map, ◌≡◌, refl, subst, ltb, leb, eqb, Answer, Verdict}
+use Rattle.std.specs.Prelude.{◌+◌, ◌&&◌, ◌||◌, ◌∷◌, ◌++◌, ◌≡◌}
+use Rattle.rules.specs.Prelude.{ℕ, Bool, true, false, List, [], map, refl, subst, ltb, leb, eqb, Answer, Verdict}
 use Rattle.rules.specs.Prelude.C
 use Rattle.rules.specs.When.{One}
 use Rattle.rules.specs.Answers.{answer, accepted, passes, and_then, first, answer_of, case_of}

@@ -1,5 +1,6 @@
 -- A store text: each line of each stage has 0 or a number of the second table, so the answer has a case of it. Assumes nothing.
-use Rattle.rules.specs.Prelude.{ℕ, zero, suc, ◌+◌, ◌||◌, List, [], ◌∷◌, refl, ltb, eqb, length, Reading, Got, Bad, StoreCount, Given}
+use Rattle.std.specs.Prelude.{◌+◌, ◌||◌, ◌∷◌}
+use Rattle.rules.specs.Prelude.{ℕ, zero, suc, List, [], refl, ltb, eqb, length, Reading, Got, Bad, StoreCount, Given}
 use Rattle.rules.specs.Limits.{limits}
 use Rattle.rules.specs.Answers.{case_of}
 use Rattle.rules.specs.Text.Words.{byte_at, value_of}
