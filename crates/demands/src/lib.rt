@@ -1,1 +1,3 @@
+#![tactic(auto)]
+
 // The three demands, of the code. No function is here; see specs/.

@@ -1,5 +1,5 @@
 -- What an entry is whose numbers are 32-bit, the entry that numbers of a table mean, and what it is for a datum to be held. The laws stand in proofs/Again. Assumes nothing.
-use Rattle.std.specs.Prelude.{◌-◌, ◌≡◌}
+use Rattle.std.specs.Prelude.{◌≡◌}
 use Rattle.rules.specs.Prelude.{ℕ, true}
 use Rattle.rules.specs.declared.Offset.{Offset}
 use Rattle.rules.specs.declared.Tag.{Tag}

@@ -1,5 +1,7 @@
 // The plain data of the rules. What it means stands in specs/, which speaks of these very types.
 // The two functions tie what code reads here, the loosest entry and the limits, to the names that specs/ uses for them.
+#![tactic(auto)]
+
 ghost use Rattle.std.specs.Prelude.{◌≡◌};
 ghost use Rattle.rules.specs.Limits.{limits};
 ghost use Rattle.rules.specs.Program.{loosest};

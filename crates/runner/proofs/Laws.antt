@@ -12,7 +12,6 @@ use Rattle.rules.specs.declared.Verdict.{Verdict}
 use Rattle.rules.specs.When.{when}
 use Rattle.rules.specs.Bytes.{bytes}
 use Rattle.rules.specs.Answers.{answer_of, case_of}
-use Rattle.rules.specs.Text.Layout.{Tables}
 use Rattle.rules.specs.Text.Words.{agreed}
 use Rattle.rules.specs.Program.{Prog}
 use Rattle.rules.specs.View.{program}

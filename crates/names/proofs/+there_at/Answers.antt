@@ -1,5 +1,4 @@
 -- By the node that stands there. The program is what the tables mean.
-use Rattle.std.proofs.Common.{ℕ, List}
 use Rattle.rules.specs.View.{program}
 use Rattle.program.specs.Lines.{tables_of}
 use Rattle.names.proofs.Laws.{leaf_is, one_is, one_not, two_none, two_some}

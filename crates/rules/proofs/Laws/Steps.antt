@@ -1,7 +1,7 @@
 -- Steps: what is stuck changes nothing, what has returned stays, each other step counts one, and no step changes a block's row, tag or length. Assumes nothing.
 use Rattle.std.proofs.Common.{arith as lin}
 use Rattle.std.specs.Prelude.{◌+◌, ◌<◌, ◌≡◌}
-use Rattle.rules.specs.Prelude.{ℕ, zero, suc, refl, sym, ap, subst, ◌∙◌, length, Datum, Given, Stuck, Has, Act, Stepped}
+use Rattle.rules.specs.Prelude.{ℕ, zero, suc, refl, sym, ap, subst, ◌∙◌, Datum, Given, Stuck, Has, Act, Stepped}
 use Rattle.rules.specs.Prelude.D
 use Rattle.rules.specs.Prelude.S
 use Rattle.rules.specs.Program.{Prog}

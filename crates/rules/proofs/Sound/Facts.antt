@@ -7,7 +7,6 @@ use Rattle.rules.specs.Prelude.{ℕ, zero, suc, List, [], sym, ap, ◌∙◌, lt
 use Rattle.rules.specs.Prelude.B
 use Rattle.rules.specs.Prelude.I
 use Rattle.rules.specs.Prelude.G
-use Rattle.rules.specs.Prelude.D
 use Rattle.rules.specs.When.{need}
 use Rattle.rules.specs.Numbers.{zero_n, num, suits}
 use Rattle.rules.specs.Program.{Rows, Var, loosest, no_entry, is_zero, psi_of, prods_of, fields_of, field_of, kind_at, agree}

@@ -4,10 +4,8 @@ use Rattle.std.proofs.Common.{get_or-set_same, get_or-set_other}
 use Rattle.std.proofs.Math.Decide.{ℕ_discrete}
 use Rattle.std.specs.Prelude.{◌<◌, ◌∷◌, ◌≡◌}
 use Rattle.rules.specs.Prelude.{ℕ, zero, suc, List, [], refl, ◌∙◌, length, get_or, set, Entry, Kind, Cint, Value, Datum, Int, Imm, Place, Given, Stuck, Has}
-use Rattle.rules.specs.Prelude.B
-use Rattle.rules.specs.Prelude.A
 use Rattle.rules.specs.Program.{Rows, loosest, field_of}
-use Rattle.rules.specs.Machine.{Store, Block, block_at, row_in, tag_in, cells_in, inside, cell_at, set_cell}
+use Rattle.rules.specs.Machine.{Store, Block, block_at, row_in, tag_in, cells_in, cell_at, set_cell}
 use Rattle.rules.proofs.Sound.Facts.{Sound, Fits}
 
 -- a part of an element that a write to the list keeps

@@ -21,7 +21,7 @@ use Rattle.rules.specs.Names.{expr_there, stmt_there}
 use Rattle.rules.specs.Typing.{ty_var, address_of, type}
 use Rattle.rules.specs.Environments.{covers_env, with_entry, with_boxed, with_tag, label_env, covers_boxed, covers_offset, covers_tag, covers_entry, covers_first, covers}
 use Rattle.rules.specs.Body.{put_at, goes, refuse, jump, is_box, is_imm, rule_set, rule_put, rule_goto, rule_if, rule_ifimm, rule_iftag, rule_ifint, rule_return, rule_label, line_of}
-use Rattle.rules.specs.Machine.{jump_if, store_at, moved, jump_on, row_in, act_if, Store, tag_in, cells_in, inside, ev_var, eval, act_set, act_put, act_ifimm, act_iftag, act_ifint, act_return, act, set_cell}
+use Rattle.rules.specs.Machine.{jump_if, store_at, moved, jump_on, row_in, act_if, Store, tag_in, cells_in, ev_var, eval, act_set, act_put, act_ifimm, act_iftag, act_ifint, act_return, act, set_cell}
 use Rattle.rules.proofs.Laws.Tests.{held, and_both, eq_z→eq, same→eq}
 use Rattle.rules.proofs.Sound.Facts.{Sound, Fits, AgreesI, AgreesT, MaySit, MayPoint, FitsImm, FitsPlace, FitsAll, pos_of, zero_offset}
 use Rattle.rules.proofs.Sound.Expr.{NonZero, Meets, address, Aims, expr_sound, is_inside}

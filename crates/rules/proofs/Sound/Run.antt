@@ -3,7 +3,6 @@ use Rattle.std.proofs.Math.Dec.{T}
 use Rattle.std.proofs.Common.{ltb→lt, eqb→eq, arith as lin, add-one}
 use Rattle.std.specs.Prelude.{◌+◌, ◌<◌, ◌&&◌, ◌∷◌, ◌++◌, ◌≡◌}
 use Rattle.rules.specs.Prelude.{ℕ, zero, suc, Bool, true, false, not, List, [], map, refl, sym, ap, subst, ltb, length, get_or, set, Env, Kind, Answer, Judged, No, Ok, Line, Given, Stuck, Has, Act}
-use Rattle.rules.specs.Prelude.A
 use Rattle.rules.specs.Prelude.D
 use Rattle.rules.specs.When.{need}
 use Rattle.rules.specs.Answers.{answer, accepted}
