@@ -1,4 +1,5 @@
 -- The tests of `iftag`, the two expressions of a `put`, and a body line by the number of its kind. Assumes nothing.
+use Rattle.std.specs.Prelude.{Some}
 use native.Mathlib.Omega.{arith as lin}
 use borrow.Author.Tests.{lt-ltb, le-ltb, eq-eqb, ne_eqb}
 use mathlib.Core.Path.{◌≡◌, sym, ap, ◌∙◌}
@@ -9,8 +10,7 @@ use lib.IntN.{pos}
 use lib.ListN.{length, get_or-eq_default}
 use Rattle.rules.specs.declared.Num.{Num}
 use Rattle.rules.specs.declared.Datum.TheVariants.{Place}
-use Rattle.rules.specs.declared.Given.{Given}
-use Rattle.rules.specs.declared.Given.TheVariants.{Has}
+use Rattle.rules.specs.Machine.{Given}
 use Rattle.rules.specs.declared.Act.{Act}
 use Rattle.rules.specs.declared.Act.TheVariants.{Stuck}
 use Rattle.rules.specs.Numbers.{eq_z, num_code}
@@ -31,15 +31,15 @@ use Rattle.program.proofs.Walk.{NoneTo, way_rest, with_one_lem, with_two_lem}
 
 -- the tests of `iftag` on a place, in a store of k blocks
 module _ (P : Prog) (s : Store) (l : ℕ) (n : Num) (b o k : ℕ) (e : k ≡ length s) where
-  pub tag_goes : (t : ℕ) (on : Bool) → t ≡ tag_in s b → on ≡ eq_z (pos t) n.n → o ≡ 0 → b < k → jump_on P l on ≡ act_iftag P s l n (Has (Place b o))
+  pub tag_goes : (t : ℕ) (on : Bool) → t ≡ tag_in s b → on ≡ eq_z (pos t) n.n → o ≡ 0 → b < k → jump_on P l on ≡ act_iftag P s l n (Some (Place b o))
   unfolding act_iftag
   tag_goes t on et eon z h = let g : b < length s = omega (lin, e, h) in rw (eq-eqb o 0 z, lt-ltb b (length s) g, sym et, eon)
 
-  pub tag_absent : o ≡ 0 → k ≤ b → Stuck ≡ act_iftag P s l n (Has (Place b o))
+  pub tag_absent : o ≡ 0 → k ≤ b → Stuck ≡ act_iftag P s l n (Some (Place b o))
   unfolding act_iftag
   tag_absent z h = let g : length s ≤ b = omega (lin, e, h) in rw (eq-eqb o 0 z, le-ltb b (length s) g)
 
-  pub tag_inside : (o ≡ 0 → ⊥) → Stuck ≡ act_iftag P s l n (Has (Place b o))
+  pub tag_inside : (o ≡ 0 → ⊥) → Stuck ≡ act_iftag P s l n (Some (Place b o))
   unfolding act_iftag
   tag_inside z = rw (ne_eqb o 0 z)
 

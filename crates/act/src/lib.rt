@@ -37,8 +37,8 @@ fn act_if(size: &[u32; 6], labels: &[u64; 6208], body: &[u32; 2560], l: usize, x
     ensures { (N R D : List ℕ) → result ≡ act_if (program (tables_of size.now N R D labels.now body.now)) l x }
 {
     match x {
-        Given::Stuck => Act::Stuck,
-        Given::Has(d) => match d {
+        None => Act::Stuck,
+        Some(d) => match d {
             Datum::Int(n) => jump_on(size, labels, body, l, !number::is_zero(n)),
             Datum::Imm(_) => Act::Stuck,
             Datum::Place(_, _) => Act::Stuck,
@@ -51,8 +51,8 @@ fn act_ifimm(size: &[u32; 6], labels: &[u64; 6208], body: &[u32; 2560], l: usize
     ensures { (N R D : List ℕ) → result ≡ act_ifimm (program (tables_of size.now N R D labels.now body.now)) l x }
 {
     match x {
-        Given::Stuck => Act::Stuck,
-        Given::Has(d) => match d {
+        None => Act::Stuck,
+        Some(d) => match d {
             Datum::Int(_) => Act::Stuck,
             Datum::Imm(_) => jump_on(size, labels, body, l, true),
             Datum::Place(_, _) => jump_on(size, labels, body, l, false),
@@ -84,7 +84,7 @@ fn tag_jump(
     b: usize,
     o: usize,
 ) -> Act
-    ensures { (N R D C : List ℕ) → result ≡ act_iftag (program (tables_of size.now N R D labels.now body.now)) (store_of store.now heads.now C) l n (Given.Has (Datum.Place b o)) }
+    ensures { (N R D C : List ℕ) → result ≡ act_iftag (program (tables_of size.now N R D labels.now body.now)) (store_of store.now heads.now C) l n (Some (Datum.Place b o)) }
 {
     let blocks = storage::block_count(store);
     if o == 0 {
@@ -113,8 +113,8 @@ fn act_iftag(
     ensures { (N R D C : List ℕ) → result ≡ act_iftag (program (tables_of size.now N R D labels.now body.now)) (store_of store.now heads.now C) l n x }
 {
     match x {
-        Given::Stuck => Act::Stuck,
-        Given::Has(d) => match d {
+        None => Act::Stuck,
+        Some(d) => match d {
             Datum::Int(_) => Act::Stuck,
             Datum::Imm(_) => Act::Stuck,
             Datum::Place(b, o) => tag_jump(size, labels, body, store, heads, l, n, b, o),
@@ -134,8 +134,8 @@ fn act_ifint(
     ensures { (N R D : List ℕ) → result ≡ act_ifint (program (tables_of size.now N R D labels.now body.now)) l n x }
 {
     match x {
-        Given::Stuck => Act::Stuck,
-        Given::Has(d) => match d {
+        None => Act::Stuck,
+        Some(d) => match d {
             Datum::Int(_) => Act::Stuck,
             Datum::Imm(m) => jump_on(size, labels, body, l, number::same(m, n)),
             Datum::Place(_, _) => Act::Stuck,
@@ -150,8 +150,8 @@ fn act_set(size: &[u32; 6], v: usize, x: Given) -> Act
     ensures { (D W : List ℕ) → result ≡ act_set (vals_of (length (vars_from size.now D)) W) v x }
 {
     match x {
-        Given::Stuck => Act::Stuck,
-        Given::Has(d) => {
+        None => Act::Stuck,
+        Some(d) => {
             if program::var_there(size, v) {
                 Act::SetVar(v, d)
             } else {
@@ -166,8 +166,8 @@ fn store_at(b: usize, o: usize, y: Given) -> Act
     ensures { result ≡ store_at b o y }
 {
     match y {
-        Given::Stuck => Act::Stuck,
-        Given::Has(d) => match d {
+        None => Act::Stuck,
+        Some(d) => match d {
             Datum::Int(_) => Act::Stuck,
             Datum::Imm(n) => Act::SetCell(b, o, Datum::Imm(n)),
             Datum::Place(c, i) => Act::SetCell(b, o, Datum::Place(c, i)),
@@ -180,8 +180,8 @@ fn put_to(to: Given, y: Given) -> Act
     ensures { result ≡ need_place Act.Stuck to (λ c i. store_at c i y) }
 {
     match to {
-        Given::Stuck => Act::Stuck,
-        Given::Has(d) => match d {
+        None => Act::Stuck,
+        Some(d) => match d {
             Datum::Int(_) => Act::Stuck,
             Datum::Imm(_) => Act::Stuck,
             Datum::Place(c, i) => store_at(c, i, y),
@@ -194,8 +194,8 @@ fn act_put(store: &[u32; 2], heads: &[u32; 768], m: Num, x: Given, y: Given) -> 
     ensures { (C : List ℕ) → result ≡ act_put (store_of store.now heads.now C) m x y }
 {
     match x {
-        Given::Stuck => Act::Stuck,
-        Given::Has(d) => match d {
+        None => Act::Stuck,
+        Some(d) => match d {
             Datum::Int(_) => Act::Stuck,
             Datum::Imm(_) => Act::Stuck,
             Datum::Place(b, o) => put_to(eval::moved(store, heads, b, o, m), y),
@@ -207,8 +207,8 @@ fn act_return(x: Given) -> Act
     ensures { result ≡ act_return x }
 {
     match x {
-        Given::Stuck => Act::Stuck,
-        Given::Has(d) => Act::Give(d),
+        None => Act::Stuck,
+        Some(d) => Act::Give(d),
     }
 }
 

@@ -9,7 +9,7 @@ use lib.Seq.{set_out}
 use borrow.Author.Tests.{ne_eqb}
 use Rattle.rules.specs.declared.Env.{Env}
 use Rattle.rules.specs.declared.Entry.{Entry}
-use Rattle.rules.specs.declared.Judged.{Judged}
+use Rattle.rules.specs.Typing.{Judged}
 use Rattle.rules.specs.declared.Line.{Line}
 use Rattle.rules.specs.declared.Answer.{Answer}
 use Rattle.rules.specs.When.{when}

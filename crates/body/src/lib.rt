@@ -16,7 +16,6 @@ ghost use Rattle.rules.specs.declared.Env.{Env};
 ghost use Rattle.coded.specs.Coded.{env_of};
 ghost use Rattle.body.specs.Lines.{HasOne, left, line_by, label_line, line_at, locals_in, lines_in, types_in};
 
-use number::Index;
 use rules::{Addr, Answer, Boxed, Entry, Env, Judged, Kind, Limits, Num, Offset, Tag};
 
 // ---- what a line gives, and the tests of lines
@@ -99,8 +98,8 @@ fn has_tag(size: &[u32; 6], rows: &[u32; 17536], r: usize, n: Num) -> bool
     ensures { result ≡ among n.n (prods_of (rows_from size.now rows.now) r) }
 {
     match number::index_in(n, program::prods_of(size, rows, r)) {
-        Index::At(_) => true,
-        Index::Outside => false,
+        Some(_) => true,
+        None => false,
     }
 }
 
@@ -152,8 +151,8 @@ fn rule_set(size: &[u32; 6], vars: &[u32; 96], v: usize, x: Judged) -> Deed
     ensures { (L : List ℕ) (m : ℕ) (Γ : Env) → line_by L m Γ result ≡ rule_set (vars_from size.now vars.now) v x Γ }
 {
     match x {
-        Judged::No(n) => refused(n),
-        Judged::Ok(q, e) => {
+        Err(n) => refused(n),
+        Ok((q, e)) => {
             if same_kind(q, program::kind_of(size, vars, v)) {
                 went(true, Then::Takes(v, e))
             } else {
@@ -169,8 +168,8 @@ fn put_at(size: &[u32; 6], rows: &[u32; 17536], r: usize, l: Kind, d: Entry, a: 
 {
     let i = d.offset;
     match a {
-        Addr::Bad(n) => refused(n),
-        Addr::At(t, o) => {
+        Err(n) => refused(n),
+        Ok((t, o)) => {
             if same_kind(l, Kind::Value(program::field_of(size, rows, r, t, o))) {
                 if entry::zero_offset(i) {
                     went(true, Then::Stays)
@@ -189,10 +188,10 @@ fn put_judged(size: &[u32; 6], rows: &[u32; 17536], n: Num, x: Judged, y: Judged
     ensures { (L : List ℕ) (m : ℕ) (Γ : Env) → line_by L m Γ result ≡ rule_put (rows_from size.now rows.now) n x y Γ }
 {
     match x {
-        Judged::No(a) => refused(a),
-        Judged::Ok(k, e) => match y {
-            Judged::No(a) => refused(a),
-            Judged::Ok(l, d) => match k {
+        Err(a) => refused(a),
+        Ok((k, e)) => match y {
+            Err(a) => refused(a),
+            Ok((l, d)) => match k {
                 Kind::Cint => refused(6),
                 Kind::Value(r) => {
                     let a = typing::address_of(size, rows, r, e, Tag::Known(n));
@@ -236,8 +235,8 @@ fn rule_if(size: &[u32; 6], labels: &[u64; 6208], env: Env, l: usize, x: Judged)
     ensures { (L : List ℕ) (m : ℕ) → line_by L m env result ≡ rule_if (labels_from size.now labels.now) l x env }
 {
     match x {
-        Judged::No(n) => refused(n),
-        Judged::Ok(q, _) => match q {
+        Err(n) => refused(n),
+        Ok((q, _)) => match q {
             Kind::Value(_) => refused(6),
             Kind::Cint => jump_to(size, labels, l, env, went(true, Then::Stays)),
         },
@@ -257,8 +256,8 @@ fn rule_ifimm(
     ensures { (L : List ℕ) (m : ℕ) → line_by L m env result ≡ rule_ifimm (labels_from size.now labels.now) l v (ty_var (vars_from size.now vars.now) env v) env }
 {
     match typing::var_judged(size, vars, env, v) {
-        Judged::No(n) => refused(n),
-        Judged::Ok(k, e) => match k {
+        Err(n) => refused(n),
+        Ok((k, e)) => match k {
             Kind::Cint => refused(6),
             Kind::Value(_) => {
                 let i = e.offset;
@@ -304,7 +303,7 @@ fn tag_test(
     r: usize,
     e: Entry,
 ) -> Deed
-    ensures { (L : List ℕ) (m : ℕ) → line_by L m env result ≡ rule_iftag (rows_from size.now rows.now) (labels_from size.now labels.now) l v n (Judged.Ok (Kind.Value r) e) env }
+    ensures { (L : List ℕ) (m : ℕ) → line_by L m env result ≡ rule_iftag (rows_from size.now rows.now) (labels_from size.now labels.now) l v n (Ok (Kind.Value r, e)) env }
 {
     let i = e.offset;
     let b = e.boxed;
@@ -334,8 +333,8 @@ fn rule_iftag(
     ensures { (L : List ℕ) (m : ℕ) → line_by L m env result ≡ rule_iftag (rows_from size.now rows.now) (labels_from size.now labels.now) l v n (ty_var (vars_from size.now vars.now) env v) env }
 {
     match typing::var_judged(size, vars, env, v) {
-        Judged::No(a) => refused(a),
-        Judged::Ok(k, e) => match k {
+        Err(a) => refused(a),
+        Ok((k, e)) => match k {
             Kind::Cint => refused(6),
             Kind::Value(r) => tag_test(size, rows, labels, env, l, v, n, r, e),
         },
@@ -355,7 +354,7 @@ fn int_test(
     r: usize,
     e: Entry,
 ) -> Deed
-    ensures { (L : List ℕ) (m : ℕ) → line_by L m env result ≡ rule_ifint (rows_from size.now rows.now) (labels_from size.now labels.now) l v n (Judged.Ok (Kind.Value r) e) env }
+    ensures { (L : List ℕ) (m : ℕ) → line_by L m env result ≡ rule_ifint (rows_from size.now rows.now) (labels_from size.now labels.now) l v n (Ok (Kind.Value r, e)) env }
 {
     let i = e.offset;
     let b = e.boxed;
@@ -385,8 +384,8 @@ fn rule_ifint(
     ensures { (L : List ℕ) (m : ℕ) → line_by L m env result ≡ rule_ifint (rows_from size.now rows.now) (labels_from size.now labels.now) l v n (ty_var (vars_from size.now vars.now) env v) env }
 {
     match typing::var_judged(size, vars, env, v) {
-        Judged::No(a) => refused(a),
-        Judged::Ok(k, e) => match k {
+        Err(a) => refused(a),
+        Ok((k, e)) => match k {
             Kind::Cint => refused(6),
             Kind::Value(r) => int_test(size, rows, labels, env, l, v, n, r, e),
         },
@@ -398,8 +397,8 @@ fn rule_return(size: &[u32; 6], x: Judged) -> Deed
     ensures { (L : List ℕ) (m : ℕ) (Γ : Env) → line_by L m Γ result ≡ rule_return (kind_code (get_or size.now 0 0)) x Γ }
 {
     match x {
-        Judged::No(n) => refused(n),
-        Judged::Ok(q, e) => {
+        Err(n) => refused(n),
+        Ok((q, e)) => {
             let i = e.offset;
             if same_kind(q, program::ret_kind(size)) {
                 if entry::zero_offset(i) {
@@ -454,7 +453,7 @@ fn own_judged(
 {
     match kind {
         1 | 4 | 8 => judged(size, rows, vars, nodes, codes, count, k),
-        _ => Judged::No(4),
+        _ => Err(4),
     }
 }
 

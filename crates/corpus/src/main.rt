@@ -32,20 +32,20 @@ fn next_length() -> Length {
         let b = next_byte();
         if b == 10 {
             if digits == 0 {
-                return Length::End;
+                return None;
             }
-            return Length::Of(n);
+            return Some(n);
         }
         if b < 48 {
-            return Length::End;
+            return None;
         }
         if 57 < b {
-            return Length::End;
+            return None;
         }
         n = (n * 10 + (b - 48) as usize) % 100000000;
         digits += 1;
     }
-    Length::End
+    None
 }
 
 // At most so many bytes of the input are read, and their number is told.
@@ -123,7 +123,7 @@ fn next_text(b: u64) -> bool {
     let run = b == 114;
     pass_over(if run { 3 } else { 5 });
     match next_length() {
-        Length::Of(n) => {
+        Some(n) => {
             if run {
                 run_text(n);
             } else {
@@ -131,7 +131,7 @@ fn next_text(b: u64) -> bool {
             }
             true
         }
-        Length::End => false,
+        None => false,
     }
 }
 

@@ -1,7 +1,6 @@
 -- What demand 3 says of a run that was not refused. Assumes nothing.
-use Rattle.std.specs.Prelude.{◌≡◌}
+use Rattle.std.specs.Prelude.{◌≡◌, None}
 use Rattle.rules.specs.Prelude.{ℕ, List, get_or}
-use Rattle.rules.specs.declared.Given.TheVariants.{Stuck}
 use Rattle.rules.specs.Machine.{Machine}
 use Rattle.rules.specs.Store.{read_store}
 use Rattle.rules.specs.Run.{glue_of, store_text_of}
@@ -23,4 +22,4 @@ pub record Fine (s : List ℕ) (r : Ran) : Type 0 where
   pub never_wrong : (n : ℕ) → NotWrong (program_of (glue_of s)) (machine_at s 0) (machine_at s n)
   pub value : r.value ≡ (machine_at s (budget_of s)).value
   pub steps : r.steps ≡ (machine_at s (budget_of s)).steps
-  pub all_taken : r.value ≡ Stuck → r.steps ≡ budget_of s
+  pub all_taken : r.value ≡ None → r.steps ≡ budget_of s

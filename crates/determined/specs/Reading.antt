@@ -5,7 +5,7 @@ use Rattle.rules.specs.declared.Answer.{Answer}
 use Rattle.rules.specs.Text.{TextOut}
 use Rattle.rules.specs.Store.Text.{Counted, counted_out}
 use Rattle.rules.specs.Store.{StoreOut}
-use Rattle.rules.specs.declared.Filling.{Filling}
+use Rattle.rules.specs.Text.Fill.{Filling}
 use Rattle.once.specs.Once.{Onced, once as made}
 use Rattle.reader.specs.Read.{Holds}
 use Rattle.tally.specs.declared.Tally.{Tally}

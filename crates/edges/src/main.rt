@@ -10,13 +10,13 @@ fn line(reader: &[u8], shown: &[u8], r: Reading) {
     io::write_all(STDOUT_FILENO, reader);
     io::write_all(STDOUT_FILENO, shown);
     match r {
-        Reading::Got(v, n) => {
+        Ok((v, n)) => {
             io::write_all(STDOUT_FILENO, b": got ");
             io::print_decimal(STDOUT_FILENO, v);
             io::write_all(STDOUT_FILENO, b" ");
             io::print_decimal(STDOUT_FILENO, n as u64);
         }
-        Reading::Bad(p) => {
+        Err(p) => {
             io::write_all(STDOUT_FILENO, b": bad ");
             io::print_decimal(STDOUT_FILENO, p as u64);
         }

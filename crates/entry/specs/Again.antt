@@ -1,11 +1,10 @@
 -- What an entry is whose numbers are 32-bit, the entry that numbers of a table mean, and what it is for a datum to be held. The laws stand in proofs/Again. Assumes nothing.
-use Rattle.std.specs.Prelude.{◌≡◌}
+use Rattle.std.specs.Prelude.{◌≡◌, Some, None}
 use Rattle.rules.specs.Prelude.{ℕ, true}
 use Rattle.rules.specs.declared.Offset.{Offset}
 use Rattle.rules.specs.declared.Tag.{Tag}
 use Rattle.rules.specs.declared.Entry.{Entry}
-use Rattle.rules.specs.declared.Given.{Given}
-use Rattle.rules.specs.declared.Given.TheVariants.{Stuck, Has}
+use Rattle.rules.specs.Machine.{Given}
 use Rattle.rules.specs.declared.Offset.TheVariants as I
 use Rattle.rules.specs.declared.Tag.TheVariants as G
 use Rattle.rules.specs.Program.{entry}
@@ -31,5 +30,5 @@ entry_of b i t = entry (boxed_code b) (offset_code i) (tag_code t)
 
 -- a datum, if there is one, can be written
 abbrev pub Held : Given → Type 0
-Held Stuck = Unit
-Held (Has d) = writable d ≡ true
+Held None = Unit
+Held (Some d) = writable d ≡ true

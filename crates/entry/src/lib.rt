@@ -278,13 +278,13 @@ pub fn datum_of(c: u64) -> Given
     let high = c / 4294967296;
     let low = c % 4294967296;
     if high == 0 {
-        Given::Stuck
+        None
     } else if high == 1 {
-        Given::Has(Datum::Int(number::number_of(low)))
+        Some(Datum::Int(number::number_of(low)))
     } else if high == 2 {
-        Given::Has(Datum::Imm(number::number_of(low)))
+        Some(Datum::Imm(number::number_of(low)))
     } else {
-        Given::Has(Datum::Place((high - 3) as usize, low as usize))
+        Some(Datum::Place((high - 3) as usize, low as usize))
     }
 }
 

@@ -1,4 +1,5 @@
 -- A cell outside its block, a place that is moved as a place among the cells of its block, and what an expression gives from what its operands give. Assumes nothing.
+use Rattle.std.specs.Prelude.{Some, None, Option}
 use native.Mathlib.Omega.{arith as lin}
 use native.Mathlib.Decide.{dec_lt}
 use borrow.Author.Tests.{lt-ltb, ltb-true}
@@ -10,14 +11,11 @@ use lib.Dec.{ltb}
 use lib.IntN.{ℤ, pos, negsuc}
 use lib.ListN.{length}
 use Rattle.rules.specs.declared.Datum.TheVariants.{Place}
-use Rattle.rules.specs.declared.Given.{Given}
-use Rattle.rules.specs.declared.Given.TheVariants.{Stuck, Has}
+use Rattle.rules.specs.Machine.{Given}
 use Rattle.rules.specs.When.{need}
 use Rattle.rules.specs.View.{form_of, none, lit_f, var_f, fetch_f, int_f, val_f, step_f, calc, tree_of, tree_at}
 use Rattle.rules.specs.Program.{Rows}
 use Rattle.rules.specs.Machine.{Store, cells_in, inside, cell_at, ev_arith, ev_val, ev_int, ev_fetch, moved, ev_step, eval}
-use Rattle.number.specs.declared.Index.{Index}
-use Rattle.number.specs.declared.Index.TheVariants.{At, Outside}
 use Rattle.number.specs.Places.{index_in, index_at, index_out}
 use Rattle.storage.proofs.Laws.{cell_out, block_with}
 use Rattle.program.specs.Nodes.{after_of}
@@ -31,38 +29,38 @@ need_same : {A : Type 0} (a : A) (t : Bool) → need a t a ≡ a
 need_same a true = refl
 need_same a false = refl
 
-never : (t : Bool) (g : Given) → need Stuck (t && false) g ≡ Stuck
+never : (t : Bool) (g : Given) → need None (t && false) g ≡ None
 never true g = refl
 never false g = refl
 
 -- outside its block a cell holds nothing
-fetch_by : (s : Store) (b o : ℕ) → Dec (o < cells_in s b) → need Stuck (inside s b o) (cell_at s b o) ≡ cell_at s b o
+fetch_by : (s : Store) (b o : ℕ) → Dec (o < cells_in s b) → need None (inside s b o) (cell_at s b o) ≡ cell_at s b o
 fetch_by s b o (yes h) = rw (lt-ltb b (length s) (block_with s b o h), lt-ltb o (cells_in s b) h)
-fetch_by s b o (no h) = let g : cells_in s b ≤ o = omega (lin, h) in rw (cell_out s b o g) (need_same Stuck (inside s b o))
+fetch_by s b o (no h) = let g : cells_in s b ≤ o = omega (lin, h) in rw (cell_out s b o g) (need_same None (inside s b o))
 
-pub fetch_is : (s : Store) (b o : ℕ) → cell_at s b o ≡ ev_fetch s (Has (Place b o))
+pub fetch_is : (s : Store) (b o : ℕ) → cell_at s b o ≡ ev_fetch s (Some (Place b o))
 unfolding ev_fetch
 fetch_is s b o = sym (fetch_by s b o (dec_lt o (cells_in s b)))
 
 -- a place that is moved lands among the cells of its block
 module _ (s : Store) (b : ℕ) where
-  moved_in : (z : ℤ) (k : ℕ) → index_in z (cells_in s b) ≡ At k → moved s b z ≡ Has (Place b k)
+  moved_in : (z : ℤ) (k : ℕ) → index_in z (cells_in s b) ≡ Some k → moved s b z ≡ Some (Place b k)
   unfolding moved
   moved_in (pos j) k e =
       let h : j < cells_in s b = ltb-true j (cells_in s b) (index_at (pos j) (cells_in s b) e).0 in
       rw (lt-ltb b (length s) (block_with s b j h), lt-ltb j (cells_in s b) h, (index_at (pos j) (cells_in s b) e).1)
   moved_in (negsuc j) k e = cc (index_at (negsuc j) (cells_in s b) e).0
 
-  moved_out : (z : ℤ) → index_in z (cells_in s b) ≡ Outside → moved s b z ≡ Stuck
+  moved_out : (z : ℤ) → index_in z (cells_in s b) ≡ None → moved s b z ≡ None
   unfolding moved
   moved_out (pos j) e = rw (index_out (pos j) (cells_in s b) e) (never (ltb b (length s)) _)
   moved_out (negsuc j) e = refl
 
-  module _ (z : ℤ) (n : ℕ) (i : Index) (en : n ≡ cells_in s b) (ei : i ≡ index_in z n) where
-    pub lands : (k : ℕ) → i ≡ At k → Has (Place b k) ≡ moved s b z
+  module _ (z : ℤ) (n : ℕ) (i : (Option ℕ)) (en : n ≡ cells_in s b) (ei : i ≡ index_in z n) where
+    pub lands : (k : ℕ) → i ≡ Some k → Some (Place b k) ≡ moved s b z
     lands k e = sym (moved_in z k (ap (index_in z) (sym en) ∙ sym ei ∙ e))
 
-    pub leaves : i ≡ Outside → Stuck ≡ moved s b z
+    pub leaves : i ≡ None → None ≡ moved s b z
     leaves e = sym (moved_out z (ap (index_in z) (sym en) ∙ sym ei ∙ e))
 
 -- ---- the walk

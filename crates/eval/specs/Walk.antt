@@ -1,10 +1,9 @@
 -- What the tree at a node gives in the machine, with the node after it; and what a node gives, from what its operands give. Assumes nothing.
-use Rattle.std.specs.Prelude.{◌≡◌}
+use Rattle.std.specs.Prelude.{◌≡◌, Some, None}
 use Rattle.rules.specs.Prelude.{ℕ, List, refl}
 use Rattle.rules.specs.declared.Datum.TheVariants.{Int, Imm, Place}
 use Rattle.rules.specs.declared.Op.{Op}
-use Rattle.rules.specs.declared.Given.{Given}
-use Rattle.rules.specs.declared.Given.TheVariants.{Stuck, Has}
+use Rattle.rules.specs.Machine.{Given}
 use Rattle.rules.specs.Numbers.{num_code}
 use Rattle.rules.specs.Program.{Rows}
 use Rattle.rules.specs.View.{Form, none, lit_f, var_f, fetch_f, int_f, val_f, step_f, calc, tree_of, tree_at}
@@ -14,22 +13,22 @@ use Rattle.eval.specs.declared.Gave.{Gave}
 
 -- of an operand of arithmetic, what plays a part: the int that it is
 abbrev pub int_only : Given → Given
-int_only Stuck = Stuck
-int_only (Has (Int n)) = Has (Int n)
-int_only (Has (Imm n)) = Stuck
-int_only (Has (Place b o)) = Stuck
+int_only None = None
+int_only (Some (Int n)) = Some (Int n)
+int_only (Some (Imm n)) = None
+int_only (Some (Place b o)) = None
 
 pub arith_ints : (o : Op) (x y : Given) → ev_arith o (int_only x) y ≡ ev_arith o x y
 unfolding ev_arith
-arith_ints o Stuck y = refl
-arith_ints o (Has (Int n)) y = refl
-arith_ints o (Has (Imm n)) y = refl
-arith_ints o (Has (Place b i)) y = refl
+arith_ints o None y = refl
+arith_ints o (Some (Int n)) y = refl
+arith_ints o (Some (Imm n)) y = refl
+arith_ints o (Some (Place b i)) y = refl
 
 -- what a node gives, from its argument and what its operands give
 unfoldable pub form : Rows → Store → List Given → Form → ℕ → Given → Given → Given
-form ρ σ δ none a x y = Stuck
-form ρ σ δ lit_f a x y = Has (Int (num_code a))
+form ρ σ δ none a x y = None
+form ρ σ δ lit_f a x y = Some (Int (num_code a))
 form ρ σ δ var_f a x y = ev_var δ a
 form ρ σ δ fetch_f a x y = ev_fetch σ x
 form ρ σ δ int_f a x y = ev_int x

@@ -5,12 +5,11 @@
 ghost use Rattle.std.specs.Prelude.{◌≡◌, true, List, ℕ, ◌/◌, ◌%◌, ◌<◌, pos, ◌+ℤ◌, length, get_or};
 ghost use Rattle.rules.specs.Program.{Rows};
 ghost use Rattle.rules.specs.View.{rows_from, vars_from, form_of};
-ghost use Rattle.rules.specs.Machine.{Store, ev_var, ev_arith, ev_val, ev_int, ev_fetch, moved, ev_step};
+ghost use Rattle.rules.specs.Machine.{Given, Store, ev_var, ev_arith, ev_val, ev_int, ev_fetch, moved, ev_step};
 ghost use Rattle.rules.specs.Machine.Tables.{store_of, vals_of};
 ghost use Rattle.program.specs.Nodes.{arity};
 ghost use Rattle.eval.specs.Walk.{int_only, form, gave, gave_at};
 
-use number::Index;
 use rules::{Datum, Given, Limits, Num, Op};
 
 // What a node's expression gives, and the node after it.
@@ -25,14 +24,14 @@ pub struct Gave {
 // The first operand is a C int; the second must be one too.
 #[tactic(auto, unfolding(rules::specs::Machine::ev_arith))]
 fn int_arith(op: Op, a: Num, y: Given) -> Given
-    ensures { result ≡ ev_arith op (Given.Has (Datum.Int a)) y }
+    ensures { result ≡ ev_arith op (Some (Datum.Int a)) y }
 {
     match y {
-        Given::Stuck => Given::Stuck,
-        Given::Has(d) => match d {
-            Datum::Int(b) => Given::Has(Datum::Int(number::arith(op, a, b))),
-            Datum::Imm(_) => Given::Stuck,
-            Datum::Place(_, _) => Given::Stuck,
+        None => None,
+        Some(d) => match d {
+            Datum::Int(b) => Some(Datum::Int(number::arith(op, a, b))),
+            Datum::Imm(_) => None,
+            Datum::Place(_, _) => None,
         },
     }
 }
@@ -42,11 +41,11 @@ fn ev_arith(op: Op, x: Given, y: Given) -> Given
     ensures { result ≡ ev_arith op x y }
 {
     match x {
-        Given::Stuck => Given::Stuck,
-        Given::Has(d) => match d {
+        None => None,
+        Some(d) => match d {
             Datum::Int(a) => int_arith(op, a, y),
-            Datum::Imm(_) => Given::Stuck,
-            Datum::Place(_, _) => Given::Stuck,
+            Datum::Imm(_) => None,
+            Datum::Place(_, _) => None,
         },
     }
 }
@@ -57,17 +56,17 @@ fn ev_val(size: &[u32; 6], r: usize, x: Given) -> Given
     ensures { (R : List ℕ) → result ≡ ev_val (rows_from size.now R) r x }
 {
     match x {
-        Given::Stuck => Given::Stuck,
-        Given::Has(d) => match d {
+        None => None,
+        Some(d) => match d {
             Datum::Int(n) => {
                 if program::row_there(size, r) {
-                    Given::Has(Datum::Imm(n))
+                    Some(Datum::Imm(n))
                 } else {
-                    Given::Stuck
+                    None
                 }
             }
-            Datum::Imm(_) => Given::Stuck,
-            Datum::Place(_, _) => Given::Stuck,
+            Datum::Imm(_) => None,
+            Datum::Place(_, _) => None,
         },
     }
 }
@@ -77,11 +76,11 @@ fn ev_int(x: Given) -> Given
     ensures { result ≡ ev_int x }
 {
     match x {
-        Given::Stuck => Given::Stuck,
-        Given::Has(d) => match d {
-            Datum::Int(_) => Given::Stuck,
-            Datum::Imm(n) => Given::Has(Datum::Int(n)),
-            Datum::Place(_, _) => Given::Stuck,
+        None => None,
+        Some(d) => match d {
+            Datum::Int(_) => None,
+            Datum::Imm(n) => Some(Datum::Int(n)),
+            Datum::Place(_, _) => None,
         },
     }
 }
@@ -94,10 +93,10 @@ fn ev_fetch(store: &[u32; 2], heads: &[u32; 768], cells: &[u64; 4352], x: Given)
     ensures { result ≡ ev_fetch (store_of store.now heads.now cells.now) x }
 {
     match x {
-        Given::Stuck => Given::Stuck,
-        Given::Has(d) => match d {
-            Datum::Int(_) => Given::Stuck,
-            Datum::Imm(_) => Given::Stuck,
+        None => None,
+        Some(d) => match d {
+            Datum::Int(_) => None,
+            Datum::Imm(_) => None,
             Datum::Place(b, o) => storage::cell_at(store, heads, cells, b, o),
         },
     }
@@ -109,22 +108,22 @@ pub fn moved(store: &[u32; 2], heads: &[u32; 768], b: usize, o: usize, m: Num) -
     ensures { (C : List ℕ) → result ≡ moved (store_of store.now heads.now C) b (pos o +ℤ m.n) }
 {
     match number::place_in(o, m, storage::cell_count(store, heads, b)) {
-        Index::At(k) => Given::Has(Datum::Place(b, k)),
-        Index::Outside => Given::Stuck,
+        Some(k) => Some(Datum::Place(b, k)),
+        None => None,
     }
 }
 
 // The first operand is a place; the amount must be a C int.
 #[tactic(auto, unfolding(rules::specs::Machine::ev_step))]
 fn place_step(store: &[u32; 2], heads: &[u32; 768], b: usize, o: usize, y: Given) -> Given
-    ensures { (C : List ℕ) → result ≡ ev_step (store_of store.now heads.now C) (Given.Has (Datum.Place b o)) y }
+    ensures { (C : List ℕ) → result ≡ ev_step (store_of store.now heads.now C) (Some (Datum.Place b o)) y }
 {
     match y {
-        Given::Stuck => Given::Stuck,
-        Given::Has(d) => match d {
+        None => None,
+        Some(d) => match d {
             Datum::Int(m) => moved(store, heads, b, o, m),
-            Datum::Imm(_) => Given::Stuck,
-            Datum::Place(_, _) => Given::Stuck,
+            Datum::Imm(_) => None,
+            Datum::Place(_, _) => None,
         },
     }
 }
@@ -134,10 +133,10 @@ fn ev_step(store: &[u32; 2], heads: &[u32; 768], x: Given, y: Given) -> Given
     ensures { (C : List ℕ) → result ≡ ev_step (store_of store.now heads.now C) x y }
 {
     match x {
-        Given::Stuck => Given::Stuck,
-        Given::Has(d) => match d {
-            Datum::Int(_) => Given::Stuck,
-            Datum::Imm(_) => Given::Stuck,
+        None => None,
+        Some(d) => match d {
+            Datum::Int(_) => None,
+            Datum::Imm(_) => None,
             Datum::Place(b, o) => place_step(store, heads, b, o, y),
         },
     }
@@ -158,12 +157,12 @@ pub fn var_given(size: &[u32; 6], vals: &[u64; 32], v: usize) -> Given
 #[tactic(auto, using(program::proofs::Walk::leaf_rest), unfolding(rules::specs::View::form_of, crate::specs::Walk::form))]
 fn leaf(size: &[u32; 6], vals: &[u64; 32], op: u32, a: u32) -> Given
     requires { arity (form_of op) ≡ 0 }
-    ensures { (ρ : Rows) (σ : Store) (D : List ℕ) → result ≡ form ρ σ (vals_of (length (vars_from size.now D)) vals.now) (form_of op) a Given.Stuck Given.Stuck }
+    ensures { (ρ : Rows) (σ : Store) (D : List ℕ) → result ≡ form ρ σ (vals_of (length (vars_from size.now D)) vals.now) (form_of op) a None None }
 {
     match op {
-        1 => Given::Has(Datum::Int(number::number(a))),
+        1 => Some(Datum::Int(number::number(a))),
         2 => var_given(size, vals, a as usize),
-        _ => Given::Stuck,
+        _ => None,
     }
 }
 
@@ -178,13 +177,13 @@ fn one_operand(
     x: Given,
 ) -> Given
     requires { arity (form_of op) ≡ 1 }
-    ensures { (R W : List ℕ) (n : ℕ) → result ≡ form (rows_from size.now R) (store_of store.now heads.now cells.now) (vals_of n W) (form_of op) a x Given.Stuck }
+    ensures { (R W : List ℕ) (n : ℕ) → result ≡ form (rows_from size.now R) (store_of store.now heads.now cells.now) (vals_of n W) (form_of op) a x None }
 {
     match op {
         3 => ev_fetch(store, heads, cells, x),
         4 => ev_int(x),
         5 => ev_val(size, a as usize, x),
-        _ => Given::Stuck,
+        _ => None,
     }
 }
 
@@ -193,11 +192,11 @@ fn int_only(x: Given) -> Given
     ensures { result ≡ int_only x }
 {
     match x {
-        Given::Stuck => Given::Stuck,
-        Given::Has(d) => match d {
-            Datum::Int(n) => Given::Has(Datum::Int(n)),
-            Datum::Imm(_) => Given::Stuck,
-            Datum::Place(_, _) => Given::Stuck,
+        None => None,
+        Some(d) => match d {
+            Datum::Int(n) => Some(Datum::Int(n)),
+            Datum::Imm(_) => None,
+            Datum::Place(_, _) => None,
         },
     }
 }
@@ -214,7 +213,7 @@ fn two_ints(op: u32, x: Given, y: Given) -> Given
         9 => ev_arith(Op::Mul, x, y),
         10 => ev_arith(Op::Eq, x, y),
         11 => ev_arith(Op::Lt, x, y),
-        _ => Given::Stuck,
+        _ => None,
     }
 }
 
@@ -227,7 +226,7 @@ fn gives(g: Given, n: usize) -> Gave
 // What a node without operands gives.
 fn leaf_at(size: &[u32; 6], nodes: &[u64; 4096], vals: &[u64; 32], at: usize) -> Given
     requires { arity (form_of (get_or nodes.now at 0 / 4294967296)) ≡ 0 }
-    ensures { (ρ : Rows) (σ : Store) (D : List ℕ) → result ≡ form ρ σ (vals_of (length (vars_from size.now D)) vals.now) (form_of (get_or nodes.now at 0 / 4294967296)) (get_or nodes.now at 0 % 4294967296) Given.Stuck Given.Stuck }
+    ensures { (ρ : Rows) (σ : Store) (D : List ℕ) → result ≡ form ρ σ (vals_of (length (vars_from size.now D)) vals.now) (form_of (get_or nodes.now at 0 / 4294967296)) (get_or nodes.now at 0 % 4294967296) None None }
 {
     let op = program::operation(nodes, at);
     let a = program::argument(nodes, at);
@@ -273,7 +272,7 @@ fn walk(
     ensures { (R D : List ℕ) → result ≡ gave_at (rows_from size.now R) (store_of store.now heads.now cells.now) (vals_of (length (vars_from size.now D)) vals.now) nodes.now depth at }
 {
     if !program::is_within(depth, at) {
-        return gives(Given::Stuck, at);
+        return gives(None, at);
     }
     let op = program::operation(nodes, at);
     let n = program::operands(op);

@@ -2,13 +2,12 @@
 use native.Mathlib.Numerals.{add-one}
 use lib.ListN.{length-map}
 use borrow.Author.Tests.{lt-ltb, le-ltb, eq-eqb, ne_eqb}
-use Rattle.std.specs.Prelude.{◌+◌, ◌<◌, ◌≤◌, ◌&&◌, ◌∷◌, ◌≡◌}
+use Rattle.std.specs.Prelude.{◌+◌, ◌<◌, ◌≤◌, ◌&&◌, ◌∷◌, ◌≡◌, None}
 use Rattle.rules.specs.Prelude.{ℕ, Bool, true, false, List, map, sym, ◌∙◌, eqb, length, get_or, drop}
 use Rattle.rules.specs.declared.Answer.{Answer}
 use Rattle.rules.specs.declared.Kind.{Kind}
 use Rattle.rules.specs.declared.Kind.TheVariants.{Value}
-use Rattle.rules.specs.declared.Given.{Given}
-use Rattle.rules.specs.declared.Given.TheVariants.{Stuck}
+use Rattle.rules.specs.Machine.{Given}
 use Rattle.rules.specs.When.{when, need}
 use Rattle.rules.specs.Answers.{answer, accepted, and_then, first}
 use Rattle.rules.specs.Program.{Prog, Rows, Var, loosest, prods_of, fields_of, field_of, kind_at}
@@ -59,7 +58,7 @@ module _ (ρ : Rows) (s : Store) (k o n : ℕ) (en : n ≡ cells_in s k) where
   module _ (h : o < n) (r t q : ℕ) (g : Given) (b : Bool) (er : r ≡ row_in s k) (et : t ≡ tag_in s k) (eq : q ≡ field_of ρ r t o) (eg : g ≡ cell_at s k o) (eb : b ≡ fits ρ s (Value q) loosest g) where
     cells_left : cells_from ρ s k o ≡ (b && cells_from ρ s k (o + 1))
     unfolding cells_fit cells_in row_in tag_in cell_at
-    cells_left = rw (left_more (block_at s k).cells o n en Stuck h, eb, eq, eg, er, et, add-one o)
+    cells_left = rw (left_more (block_at s k).cells o n en None h, eb, eq, eg, er, et, add-one o)
 
     pub cells_on_lem : b ≡ true → cells_from ρ s k (o + 1) ≡ cells_from ρ s k o
     cells_on_lem z = all_on cells_left z
@@ -101,7 +100,7 @@ module _ (ρ : Rows) (s : Store) (D : List Var) (W : List ℕ) (at v n : ℕ) (e
         when l (λ _. arg_numbers ρ s (drop (v + 1) D) (drop (v + 1) (vals_of (length D) W)))
         (λ _. need 27 (fits ρ s (kind_at D v) loosest (ev_var (vals_of (length D) W) v)) 0 ∷ arg_numbers ρ s (drop (v + 1) D) (drop (v + 1) (vals_of (length D) W)))
     unfolding arg_numbers kind_at ev_var
-    args_left = rw (left_more D v n en no_var h, left_more (vals_of (length D) W) v n (en ∙ sym (vals_length (length D) W)) Stuck h, el)
+    args_left = rw (left_more D v n en no_var h, left_more (vals_of (length D) W) v n (en ∙ sym (vals_length (length D) W)) None h, el)
 
     pub args_local : l ≡ true → args_from ρ s D W at (v + 1) ≡ args_from ρ s D W at v
     args_local z = rw (args_left, z)

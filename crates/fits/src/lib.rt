@@ -56,8 +56,8 @@ fn given_fits(
     ensures { (C : List ℕ) → result ≡ fits (rows_from size.now rows.now) (store_of store.now heads.now C) k loosest g }
 {
     match g {
-        Given::Stuck => false,
-        Given::Has(d) => match k {
+        None => false,
+        Some(d) => match k {
             Kind::Cint => match d {
                 Datum::Int(_) => true,
                 Datum::Imm(_) => false,

@@ -13,7 +13,7 @@ use rules::Reading;
 fn run_at(s: &[u8], at: usize) -> bool
     ensures { result ≡ eqb (agreed (bytes "run=") (drop at s.now)) 4 }
 {
-    let r = text::or_word(s, at, b"run=", 1, Reading::Bad(at));
+    let r = text::or_word(s, at, b"run=", 1, Err(at));
     text::value_of(r) == 1
 }
 

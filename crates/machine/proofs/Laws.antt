@@ -1,10 +1,9 @@
 -- What no step of tables alters, and a step of a lent machine as a step of its parts. Assumes nothing.
-use Rattle.std.specs.Prelude.{◌≡◌}
+use Rattle.std.specs.Prelude.{◌≡◌, Some, None}
 use Rattle.rules.specs.Prelude.{Bool, true, false, List, ℕ, [], refl, sym, ap, ◌∙◌}
 use Rattle.rules.specs.declared.Act.{Act}
 use Rattle.rules.specs.declared.Act.TheVariants as D
-use Rattle.rules.specs.declared.Given.{Given}
-use Rattle.rules.specs.declared.Given.TheVariants.{Stuck, Has}
+use Rattle.rules.specs.Machine.{Given}
 use Rattle.rules.specs.declared.Stepped.{Stepped}
 use Rattle.rules.specs.When.{when}
 use Rattle.rules.specs.Program.{Prog}
@@ -29,8 +28,8 @@ apply_keeps (D.SetCell b o d) t = (refl, refl)
 apply_keeps (D.Give d) t = (refl, refl)
 
 step_from_keeps : (P : Prog) (t : MTables) (g : Given) → Kept t (step_from_t P t g)
-step_from_keeps P t Stuck = apply_keeps _ t
-step_from_keeps P t (Has d) = (refl, refl)
+step_from_keeps P t None = apply_keeps _ t
+step_from_keeps P t (Some d) = (refl, refl)
 
 unless_keeps : (b : Bool) (t u : MTables) → Kept t u → Kept t (when b (λ _. t) (λ _. u))
 unless_keeps true t u k = (refl, refl)

@@ -1,12 +1,11 @@
 -- Runs of tables: a step that does not move ends a run, and one that moves counts one and leaves the rest of it. Assumes nothing.
 use native.Mathlib.Omega.{arith as lin}
 use borrow.Author.Tests.{leb-true, leb-false}
-use Rattle.std.specs.Prelude.{◌+◌, ◌-◌, ◌<◌, ◌≡◌}
+use Rattle.std.specs.Prelude.{◌+◌, ◌-◌, ◌<◌, ◌≡◌, Some, None}
 use Rattle.rules.specs.Prelude.{ℕ, zero, suc, Bool, true, false, List, [], get_or, refl, sym, ap, subst, ◌∙◌}
 use Rattle.rules.specs.declared.Act.{Act}
 use Rattle.rules.specs.declared.Act.TheVariants as D
-use Rattle.rules.specs.declared.Given.{Given}
-use Rattle.rules.specs.declared.Given.TheVariants.{Stuck, Has}
+use Rattle.rules.specs.Machine.{Given}
 use Rattle.rules.specs.declared.Stepped.{Stepped}
 use Rattle.rules.specs.declared.Stepped.TheVariants as T
 use Rattle.rules.specs.When.{when}
@@ -55,8 +54,8 @@ module _ (P : Prog) (t : MTables) where
   rests_by : (b : Bool) (g : Given) → Rests (when b (λ _. T.Spent) (λ _. says_from P (machine P t) g)) → when b (λ _. t) (λ _. step_from_t P t g) ≡ t
   unfolding machine
   rests_by true g h = refl
-  rests_by false Stuck h = act_rests (decide P (store_of t.size t.heads t.cells) _ t.at) t h
-  rests_by false (Has d) h = refl
+  rests_by false None h = act_rests (decide P (store_of t.size t.heads t.cells) _ t.at) t h
+  rests_by false (Some d) h = refl
 
   pub step_rests : Rests (says_within P t) → step_within P t ≡ t
   unfolding step_within says_within says step_t machine
@@ -78,8 +77,8 @@ module _ (P : Prog) (t : MTables) where
   module _ (h : Goes (says_within P t)) where
     goes_by : (b : Bool) (g : Given) → Goes (when b (λ _. T.Spent) (λ _. says_from P (machine P t) g)) → (b ≡ false) × ((step_from_t P t g).steps ≡ t.steps + 1)
     unfolding machine
-    goes_by false Stuck h = (refl, act_counts (decide P (store_of t.size t.heads t.cells) _ t.at) t h)
-    goes_by false (Has _) h = elim h [ ]
+    goes_by false None h = (refl, act_counts (decide P (store_of t.size t.heads t.cells) _ t.at) t h)
+    goes_by false (Some _) h = elim h [ ]
     goes_by true g h = elim h [ ]
 
     gone : (spent t ≡ false) × ((step_t P t).steps ≡ t.steps + 1)

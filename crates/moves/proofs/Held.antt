@@ -4,12 +4,11 @@ use native.Mathlib.Omega.{arith as lin}
 use native.Mathlib.Decide.{dec_lt}
 use lib.Dec.{T, ltb→lt}
 use lib.ListN.{get_or-eq_default}
-use Rattle.std.specs.Prelude.{◌<◌, ◌≤◌, ◌&&◌, ◌+ℤ◌, ◌≡◌}
+use Rattle.std.specs.Prelude.{◌<◌, ◌≤◌, ◌&&◌, ◌+ℤ◌, ◌≡◌, Some, None}
 use Rattle.rules.specs.Prelude.{ℕ, Bool, true, false, not, List, ℤ, pos, negsuc, ltb, eqb, get_or, length, refl, sym, subst}
 use Rattle.rules.specs.declared.Num.{Num}
 use Rattle.rules.specs.declared.Datum.TheVariants.{Int, Imm, Place}
-use Rattle.rules.specs.declared.Given.{Given}
-use Rattle.rules.specs.declared.Given.TheVariants.{Stuck, Has}
+use Rattle.rules.specs.Machine.{Given}
 use Rattle.rules.specs.declared.Act.{Act}
 use Rattle.rules.specs.declared.Act.TheVariants as D
 use Rattle.rules.specs.Numbers.{zero_n, eq_z, same_num}
@@ -28,29 +27,29 @@ use Rattle.moves.specs.Moves.{lines, Words, Ready}
 -- ---- a property of what is needed of a datum: of the refusal, and of the rest
 
 by_int : {A : Type 0} (Q : A → Type 0) (stuck : A) (g : Given) (k : Num → A) → Q stuck → ((n : Num) → Q (k n)) → Q (need_int stuck g k)
-by_int Q stuck Stuck k r f = r
-by_int Q stuck (Has (Int n)) k r f = f n
-by_int Q stuck (Has (Imm n)) k r f = r
-by_int Q stuck (Has (Place b o)) k r f = r
+by_int Q stuck None k r f = r
+by_int Q stuck (Some (Int n)) k r f = f n
+by_int Q stuck (Some (Imm n)) k r f = r
+by_int Q stuck (Some (Place b o)) k r f = r
 
 by_imm : {A : Type 0} (Q : A → Type 0) (stuck : A) (g : Given) (k : Num → A) → Q stuck → ((n : Num) → Q (k n)) → Q (need_imm stuck g k)
-by_imm Q stuck Stuck k r f = r
-by_imm Q stuck (Has (Int n)) k r f = r
-by_imm Q stuck (Has (Imm n)) k r f = f n
-by_imm Q stuck (Has (Place b o)) k r f = r
+by_imm Q stuck None k r f = r
+by_imm Q stuck (Some (Int n)) k r f = r
+by_imm Q stuck (Some (Imm n)) k r f = f n
+by_imm Q stuck (Some (Place b o)) k r f = r
 
 by_place : {A : Type 0} (Q : A → Type 0) (stuck : A) (g : Given) (k : ℕ → ℕ → A) → Q stuck → ((b o : ℕ) → Q (k b o)) → Q (need_place stuck g k)
-by_place Q stuck Stuck k r f = r
-by_place Q stuck (Has (Int n)) k r f = r
-by_place Q stuck (Has (Imm n)) k r f = r
-by_place Q stuck (Has (Place b o)) k r f = f b o
+by_place Q stuck None k r f = r
+by_place Q stuck (Some (Int n)) k r f = r
+by_place Q stuck (Some (Imm n)) k r f = r
+by_place Q stuck (Some (Place b o)) k r f = f b o
 
 -- ---- over a store and variables whose data can be written
 
 module _ (s : Store) (δ : List Given) (vars : (v : ℕ) → Held (ev_var δ v)) (cells : (b o : ℕ) → Held (cell_at s b o)) (here : (b o : ℕ) → T (inside s b o) → writable (Place b o) ≡ true) where
   moved_held : (b : ℕ) (z : ℤ) → Held (moved s b z)
   unfolding moved
-  moved_held b (pos o) = by_need Held Stuck (inside s b o) (Has (Place b o)) tt (here b o)
+  moved_held b (pos o) = by_need Held None (inside s b o) (Some (Place b o)) tt (here b o)
   moved_held b (negsuc o) = tt
 
   eval_held : (ρ : Rows) (x : Expr) → Held (eval ρ s δ x)
@@ -58,11 +57,11 @@ module _ (s : Store) (δ : List Given) (vars : (v : ℕ) → Held (ev_var δ v))
   eval_held ρ bad = tt
   eval_held ρ (lit n) = refl
   eval_held ρ (var v) = vars v
-  eval_held ρ (arith o x y) = by_int Held Stuck (eval ρ s δ x) _ tt (λ a. by_int Held Stuck (eval ρ s δ y) _ tt (λ c. refl))
-  eval_held ρ (val r x) = by_int Held Stuck (eval ρ s δ x) _ tt (λ n. by_need Held Stuck (row_there ρ r) (Has (Imm n)) tt (λ _. refl))
-  eval_held ρ (int x) = by_imm Held Stuck (eval ρ s δ x) _ tt (λ n. refl)
-  eval_held ρ (fetch x) = by_place Held Stuck (eval ρ s δ x) _ tt (λ b o. by_need Held Stuck (inside s b o) (cell_at s b o) tt (λ _. cells b o))
-  eval_held ρ (step x y) = by_place Held Stuck (eval ρ s δ x) _ tt (λ b o. by_int Held Stuck (eval ρ s δ y) _ tt (λ m. moved_held b (pos o +ℤ m.n)))
+  eval_held ρ (arith o x y) = by_int Held None (eval ρ s δ x) _ tt (λ a. by_int Held None (eval ρ s δ y) _ tt (λ c. refl))
+  eval_held ρ (val r x) = by_int Held None (eval ρ s δ x) _ tt (λ n. by_need Held None (row_there ρ r) (Some (Imm n)) tt (λ _. refl))
+  eval_held ρ (int x) = by_imm Held None (eval ρ s δ x) _ tt (λ n. refl)
+  eval_held ρ (fetch x) = by_place Held None (eval ρ s δ x) _ tt (λ b o. by_need Held None (inside s b o) (cell_at s b o) tt (λ _. cells b o))
+  eval_held ρ (step x y) = by_place Held None (eval ρ s δ x) _ tt (λ b o. by_int Held None (eval ρ s δ y) _ tt (λ m. moved_held b (pos o +ℤ m.n)))
 
   -- at a line that is there
   module _ (i : ℕ) (h : i < 512) where
@@ -76,25 +75,25 @@ module _ (s : Store) (δ : List Given) (vars : (v : ℕ) → Held (ev_var δ v))
 
     set_ready : (v : ℕ) (g : Given) → Held g → At (act_set δ v g)
     unfolding act_set
-    set_ready v Stuck k = tt
-    set_ready v (Has d) k = by_need At D.Stuck (ltb v (length δ)) (D.SetVar v d) tt (λ _. (h, k))
+    set_ready v None k = tt
+    set_ready v (Some d) k = by_need At D.Stuck (ltb v (length δ)) (D.SetVar v d) tt (λ _. (h, k))
 
     store_ready : (b o : ℕ) (g : Given) → Held g → At (store_at b o g)
-    store_ready b o Stuck k = tt
-    store_ready b o (Has (Int n)) k = tt
-    store_ready b o (Has (Imm n)) k = (h, k)
-    store_ready b o (Has (Place c j)) k = (h, k)
+    store_ready b o None k = tt
+    store_ready b o (Some (Int n)) k = tt
+    store_ready b o (Some (Imm n)) k = (h, k)
+    store_ready b o (Some (Place c j)) k = (h, k)
 
     imm_ready : (P : Prog) (l : ℕ) (g : Given) → At (act_ifimm P l g)
     unfolding act_ifimm
-    imm_ready P l Stuck = tt
-    imm_ready P l (Has (Int n)) = tt
-    imm_ready P l (Has (Imm n)) = jump_ready P l true
-    imm_ready P l (Has (Place b o)) = jump_ready P l false
+    imm_ready P l None = tt
+    imm_ready P l (Some (Int n)) = tt
+    imm_ready P l (Some (Imm n)) = jump_ready P l true
+    imm_ready P l (Some (Place b o)) = jump_ready P l false
 
     return_ready : (g : Given) → Held g → At (act_return g)
-    return_ready Stuck k = tt
-    return_ready (Has d) k = k
+    return_ready None k = tt
+    return_ready (Some d) k = k
 
     act_ready : (P : Prog) (x : Stmt) → At (act P s δ x)
     unfolding act act_put act_if act_iftag act_ifint

@@ -101,13 +101,13 @@ pub fn move_at(
     }
     let returned = entry::datum_of(value);
     match returned {
-        Given::Has(_) => Moved {
+        Some(_) => Moved {
             out: Stepped::Returned,
             at,
             steps,
             value,
         },
-        Given::Stuck => {
+        None => {
             words(cells);
             words(vals);
             let act = act::decide_at(size, nodes, labels, body, store, heads, cells, vals, at);

@@ -11,11 +11,10 @@ use mir.Syntax.{Width, w32, w64}
 use mir.Val.{SFits, Fits, of_z, to_z, bits, hbits}
 use mir.ValLaws.{half_full}
 use mir.Facts.{to_z-of_z, Fits-nat_abs, sfits_widen, to_z_pos}
-use Rattle.std.specs.Prelude.{◌+◌, ◌-◌, ◌*◌, ◌%◌, ◌≤◌, ◌<◌, ◌≡◌, ◌+ℤ◌, ◌-ℤ◌, ◌*ℤ◌}
+use Rattle.std.specs.Prelude.{◌+◌, ◌-◌, ◌*◌, ◌%◌, ◌≤◌, ◌<◌, ◌≡◌, ◌+ℤ◌, ◌-ℤ◌, ◌*ℤ◌, Some, None}
 use Rattle.rules.specs.Prelude.{ℕ, zero, suc, Bool, true, false, ltb, eqb, refl, sym, ap, ap₂, ◌∙◌, subst, ℤ, pos, negsuc}
 use Rattle.rules.specs.Numbers.{num, eq_z, num_code, wrap32}
 use Rattle.number.specs.declared.Sign.TheVariants.{Plus, Minus}
-use Rattle.number.specs.declared.Index.TheVariants.{At, Outside}
 use Rattle.number.specs.Places.{sign_of, index_in}
 
 true≠false : true ≡ false → ⊥
@@ -156,15 +155,15 @@ unfolding sign_of
 minus_is (pos n) e = cc
 minus_is (negsuc n) e = cc
 
-pub inside : {k n : ℕ} → k < n → At k ≡ index_in (pos k) n
+pub inside : {k n : ℕ} → k < n → Some k ≡ index_in (pos k) n
 unfolding index_in
 inside {k} {n} p = rw (lt-ltb k n p) refl
 
-pub outside : {k n : ℕ} → n ≤ k → Outside ≡ index_in (pos k) n
+pub outside : {k n : ℕ} → n ≤ k → None ≡ index_in (pos k) n
 unfolding index_in
 outside {k} {n} p = rw (le-ltb k n p) refl
 
-pub none_below : {z : ℤ} (n : ℕ) {k : ℕ} → z ≡ negsuc k → Outside ≡ index_in z n
+pub none_below : {z : ℤ} (n : ℕ) {k : ℕ} → z ≡ negsuc k → None ≡ index_in z n
 unfolding index_in
 none_below n e = rw e refl
 

@@ -119,44 +119,37 @@ pub fn arith(o: Op, a: Num, b: Num) -> Num
 
 // ---- places
 
-// A whole number as a place among so many.
-#[derive(Drop)]
-pub enum Index {
-    At(usize),
-    Outside,
-}
-
 // o + k among n, also where o + k is more than a usize holds.
 #[tactic(auto, using(crate::proofs::Laws::inside, crate::proofs::Laws::outside))]
-fn ahead(o: usize, k: usize, n: usize) -> Index
+fn ahead(o: usize, k: usize, n: usize) -> Option<usize>
     ensures { result ≡ index_in (pos (o + k)) n }
 {
     if o < n {
         if k < n - o {
-            Index::At(o + k)
+            Some(o + k)
         } else {
-            Index::Outside
+            None
         }
     } else {
-        Index::Outside
+        None
     }
 }
 
 // o - 1 - k among n.
 #[tactic(auto, using(crate::proofs::Laws::none_below, crate::proofs::Laws::less, crate::proofs::Laws::less_none))]
-fn back(o: usize, k: usize, n: usize) -> Index
+fn back(o: usize, k: usize, n: usize) -> Option<usize>
     ensures { result ≡ index_in (pos o +ℤ negsuc k) n }
 {
     if k < o {
         ahead(o - 1 - k, 0, n)
     } else {
-        Index::Outside
+        None
     }
 }
 
 // o + m among n, over whole numbers.
 #[tactic(auto, using(crate::proofs::Laws::minus_is, crate::proofs::Laws::plus_is))]
-pub fn place_in(o: usize, m: Num, n: usize) -> Index
+pub fn place_in(o: usize, m: Num, n: usize) -> Option<usize>
     ensures { result ≡ index_in (pos o +ℤ m.n) n }
 {
     match sign_of(m) {
@@ -166,7 +159,7 @@ pub fn place_in(o: usize, m: Num, n: usize) -> Index
 }
 
 // k among n.
-pub fn index_in(k: Num, n: usize) -> Index
+pub fn index_in(k: Num, n: usize) -> Option<usize>
     ensures { result ≡ index_in k.n n }
 {
     place_in(0, k, n)
@@ -174,14 +167,14 @@ pub fn index_in(k: Num, n: usize) -> Index
 
 // o + m among n, over whole numbers.
 #[tactic(auto, using(crate::proofs::Laws::none_below, crate::proofs::Laws::minus_is, crate::proofs::Laws::plus_is))]
-pub fn sum_in(o: Num, m: Num, n: usize) -> Index
+pub fn sum_in(o: Num, m: Num, n: usize) -> Option<usize>
     ensures { result ≡ index_in (o.n +ℤ m.n) n }
 {
     match sign_of(o) {
         Sign::Plus(k) => place_in(k as usize, m, n),
         Sign::Minus(_) => match sign_of(m) {
             Sign::Plus(k) => place_in(k as usize, o, n),
-            Sign::Minus(_) => Index::Outside,
+            Sign::Minus(_) => None,
         },
     }
 }
@@ -194,8 +187,8 @@ pub fn suits(p: Psi, n: Num) -> bool
     match p {
         Psi::Inf => true,
         Psi::Upto(m) => match index_in(n, m as usize) {
-            Index::At(_) => true,
-            Index::Outside => false,
+            Some(_) => true,
+            None => false,
         },
     }
 }

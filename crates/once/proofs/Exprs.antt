@@ -3,17 +3,15 @@ use native.Mathlib.Numerals.{sub-one}
 use native.Mathlib.Nat.{suc-mul}
 use native.Mathlib.Omega.{arith}
 use borrow.Author.Tests.{lt-ltb, le-ltb, eq-eqb, ne_eqb}
-use Rattle.std.specs.Prelude.{◌+◌, ◌-◌, ◌*◌, ◌≤◌, ◌<◌, ◌≡◌}
+use Rattle.std.specs.Prelude.{◌+◌, ◌-◌, ◌*◌, ◌≤◌, ◌<◌, ◌≡◌, Some, None, Ok}
 use Rattle.rules.specs.Prelude.{ℕ, zero, suc, List, refl, set}
-use Rattle.rules.specs.declared.Head.{Head}
-use Rattle.rules.specs.declared.Head.TheVariants.{Node}
-use Rattle.rules.specs.declared.Filling.TheVariants as F
+use Rattle.rules.specs.Text.Words.{Head}
 use Rattle.rules.specs.Text.Words.{byte_at, arity, head_at}
 use Rattle.rules.specs.Text.Fill.{Out, out, onward}
 use Rattle.once.specs.Once.{operands_once, node_once, expr_once}
 
 module _ (s : List ℕ) (at free : ℕ) (N : List ℕ) where
-  pub no_depth : (d : ℕ) → d ≡ 0 → expr_once s d at free N ≡ out F.Limit N
+  pub no_depth : (d : ℕ) → d ≡ 0 → expr_once s d at free N ≡ out None N
   unfolding expr_once
   no_depth d e = rw e
 
@@ -23,11 +21,11 @@ module _ (s : List ℕ) (at free : ℕ) (N : List ℕ) where
   by_head (suc d) n e = rw (e, sub-one (suc d))
 
 module _ (s : List ℕ) (one : ℕ → ℕ → List ℕ → Out) (at free : ℕ) (N : List ℕ) where
-  pub no_operand : (n : ℕ) → n ≡ 0 → operands_once s one n at free N ≡ out (F.Got at free) N
+  pub no_operand : (n : ℕ) → n ≡ 0 → operands_once s one n at free N ≡ out (Some (at, free)) N
   unfolding operands_once
   no_operand n e = rw e
 
-  pub no_space : (n : ℕ) → (n ≡ 0 → ⊥) → (byte_at s at ≡ 32 → ⊥) → operands_once s one n at free N ≡ out F.Limit N
+  pub no_space : (n : ℕ) → (n ≡ 0 → ⊥) → (byte_at s at ≡ 32 → ⊥) → operands_once s one n at free N ≡ out None N
   unfolding operands_once
   no_space zero n e = absurd (n refl)
   no_space (suc m) n e = rw (ne_eqb (byte_at s at) 32)
@@ -37,10 +35,10 @@ module _ (s : List ℕ) (one : ℕ → ℕ → List ℕ → Out) (at free : ℕ)
   an_operand zero n b e = absurd (n refl)
   an_operand (suc m) n b e = rw (eq-eqb (byte_at s at) 32, e, sub-one (suc m))
 
-  pub no_room : (op a : ℕ) → 4096 ≤ free → node_once s one (Node op a at) free N ≡ out F.Limit N
+  pub no_room : (op a : ℕ) → 4096 ≤ free → node_once s one (Ok (op, a, at)) free N ≡ out None N
   no_room op a h = rw (le-ltb free 4096)
 
-  pub room : (op a : ℕ) → free < 4096 → node_once s one (Node op a at) free N ≡ operands_once s one (arity op) at (free + 1) (set N free (op * 4294967296 + a))
+  pub room : (op a : ℕ) → free < 4096 → node_once s one (Ok (op, a, at)) free N ≡ operands_once s one (arity op) at (free + 1) (set N free (op * 4294967296 + a))
   room op a h = rw (lt-ltb free 4096)
 
 -- an expression's measure falls to that of its operands, however many they are

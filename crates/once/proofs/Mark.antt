@@ -1,18 +1,17 @@
 -- A word and the byte after it: one law for each way through the code. Assumes nothing.
 use borrow.Author.Tests.{eq-eqb, ne_eqb}
-use Rattle.std.specs.Prelude.{◌+◌, ◌≡◌}
+use Rattle.std.specs.Prelude.{◌+◌, ◌≡◌, Ok, Err}
 use Rattle.rules.specs.Prelude.{ℕ, List, sym, ap, ◌∙◌}
-use Rattle.rules.specs.declared.Reading.{Reading}
-use Rattle.rules.specs.declared.Reading.TheVariants.{Got, Bad}
+use Rattle.rules.specs.Text.Words.{Reading}
 use Rattle.rules.specs.Text.Words.{byte_at}
 use Rattle.once.specs.Once.{after_mark}
 
 module _ {A : Type 0} (s : List ℕ) (b : ℕ) (stop : ℕ → A) (go : ℕ → ℕ → A) {r q : Reading} (e : r ≡ q) where
-  pub word_bad : {p : ℕ} → r ≡ Bad p → stop p ≡ after_mark s b stop go q
+  pub word_bad : {p : ℕ} → r ≡ Err p → stop p ≡ after_mark s b stop go q
   unfolding after_mark
   word_bad h = ap (after_mark s b stop go) (sym h ∙ e)
 
-  module _ {x n : ℕ} (h : r ≡ Got x n) where
+  module _ {x n : ℕ} (h : r ≡ Ok (x, n)) where
     pub no_mark : (byte_at s n ≡ b → ⊥) → stop n ≡ after_mark s b stop go q
     unfolding after_mark
     no_mark z = rw (ne_eqb (byte_at s n) b) at (ap (after_mark s b stop go) (sym h ∙ e))

@@ -2,14 +2,11 @@
 use mathlib.Core.Logic.{⊎_elim}
 use native.Mathlib.Omega.{arith}
 use borrow.Author.Tests.{ltb-true, eqb-true, eq-eqb}
-use Rattle.std.specs.Prelude.{◌+◌, ◌<◌, ◌≡◌}
+use Rattle.std.specs.Prelude.{◌+◌, ◌<◌, ◌≡◌, Some, None, Ok, Err}
 use Rattle.rules.specs.Prelude.{ℕ, Bool, true, false, List, refl, ap, sym, ◌∙◌, ltb, eqb}
 use Rattle.rules.specs.declared.Count.{Count}
-use Rattle.rules.specs.declared.Reading.{Reading}
-use Rattle.rules.specs.declared.Reading.TheVariants.{Got, Bad}
-use Rattle.rules.specs.declared.Next.{Next}
-use Rattle.rules.specs.declared.Next.TheVariants as N
-use Rattle.rules.specs.declared.Filling.TheVariants as F
+use Rattle.rules.specs.Text.Words.{Reading}
+use Rattle.rules.specs.Text.Words.{Next}
 use Rattle.rules.specs.When.{when}
 use Rattle.rules.proofs.Laws.Tests.{by_when}
 use Rattle.rules.specs.Text.Words.{byte_at, value_of, next_of, byte_is, plain_at, number_at, var_at}
@@ -25,7 +22,7 @@ abbrev pub Refuses : Filled → Type 0
 Refuses (filled true c t) = ⊥
 Refuses (filled false c t) = Unit
 
-not_at : {A : Type 0} {x : Next} {p n : ℕ} → x ≡ N.Bad p → x ≡ N.At n → A
+not_at : {A : Type 0} {x : Next} {p n : ℕ} → x ≡ Err p → x ≡ Ok n → A
 not_at e q = let z : ◌≡◌ {A = ℕ} 0 1 = cc in absurd (omega arith)
 
 no_byte : {A : Type 0} {b k : ℕ} → eqb b k ≡ false → b ≡ k → A
@@ -34,32 +31,32 @@ no_byte {b = b} {k} z h = let y : eqb b k ≡ true = eq-eqb b k h in let x : ◌
 module _ (s : List ℕ) (c : Count) (t : Tables) where
   -- what was read once, the line's shape, and what the rules fill
   abbrev pub Told : Onced → Next → Filled → Type 0
-  Told (once (F.Got n free) M B) x f = (x ≡ N.At n) × (byte_at s n ≡ 10) × (f ≡ filled true (one_line c free) (with_body (with_nodes t M) B))
-  Told (once F.Limit M B) x f = (n : ℕ) → x ≡ N.At n → byte_at s n ≡ 10 → Refuses f
+  Told (once (Some (n, free)) M B) x f = (x ≡ Ok n) × (byte_at s n ≡ 10) × (f ≡ filled true (one_line c free) (with_body (with_nodes t M) B))
+  Told (once None M B) x f = (n : ℕ) → x ≡ Ok n → byte_at s n ≡ 10 → Refuses f
 
   -- ---- the last expression
 
   line_limited : (kind l v w : ℕ) (e : Out) → Limited e → Refuses (expr_line c t kind l v w e)
-  line_limited kind l v w (out F.Limit M) h = tt
-  line_limited kind l v w (out (F.Got _ _) M) h = elim h [ ]
+  line_limited kind l v w (out None M) h = tt
+  line_limited kind l v w (out (Some (_, _)) M) h = elim h [ ]
 
   last_told : (kind l v w at : ℕ) (o e : Out) → Read s at o e → Told (last_once s c.lines c.nodes kind l v w t.body o) (expr_shape s at) (expr_line c t kind l v w e)
   unfolding last_once
-  last_told kind l v w at (out (F.Got n free) M) e (q, x) =
+  last_told kind l v w at (out (Some (n, free)) M) e (q, x) =
       by_when (λ (y : Onced). Told y (expr_shape s at) (expr_line c t kind l v w e)) (eqb (byte_at s n) 10) _ _
       (λ z. (x, eqb-true _ 10 z, ap (expr_line c t kind l v w) (sym q)))
       (λ z m y b. let k : n ≡ m = cc in no_byte z (ap (byte_at s) k ∙ b))
-  last_told kind l v w at (out F.Limit M) e r = λ n y b. ⊎_elim (λ g. not_at g.1 y) (line_limited kind l v w e) r
+  last_told kind l v w at (out None M) e r = λ n y b. ⊎_elim (λ g. not_at g.1 y) (line_limited kind l v w e) r
 
   -- ---- a word, a space, and on
 
   module _ (M B : List ℕ) (go : ℕ → ℕ → Onced) (shape : ℕ → Next) (fill : ℕ → ℕ → Filled) (told : (x n : ℕ) → Told (go x n) (shape n) (fill x n)) where
-    word_told : (r : Reading) → Told (after_mark s 32 (λ _. once F.Limit M B) go r) (after r (space s shape)) (fill (value_of r) (next_of r + 1))
+    word_told : (r : Reading) → Told (after_mark s 32 (λ _. once None M B) go r) (after r (space s shape)) (fill (value_of r) (next_of r + 1))
     unfolding after_mark byte_is
-    word_told (Bad p) = λ n y b. not_at refl y
-    word_told (Got x n) = by (eqb (byte_at s n) 32) refl
+    word_told (Err p) = λ n y b. not_at refl y
+    word_told (Ok (x, n)) = by (eqb (byte_at s n) 32) refl
       where
-        by : (b : Bool) → eqb (byte_at s n) 32 ≡ b → Told (when b (λ _. go x (n + 1)) (λ _. once F.Limit M B)) (over (when b (λ _. N.At (n + 1)) (λ _. N.Bad n)) shape) (fill x (n + 1))
+        by : (b : Bool) → eqb (byte_at s n) 32 ≡ b → Told (when b (λ _. go x (n + 1)) (λ _. once None M B)) (over (when b (λ _. Ok (n + 1)) (λ _. Err n)) shape) (fill x (n + 1))
         by true q = told x (n + 1)
         by false q = λ m y b. not_at refl y
 
@@ -76,24 +73,24 @@ module _ (s : List ℕ) (c : Count) (t : Tables) where
   put_shape = space s (λ n. after (number_at s n) (space s (expr_shape s)))
 
   two_limited : (e : Out) → Limited e → Refuses (fill_put_two s c t e)
-  two_limited (out F.Limit M) h = tt
-  two_limited (out (F.Got _ _) M) h = elim h [ ]
+  two_limited (out None M) h = tt
+  two_limited (out (Some (_, _)) M) h = elim h [ ]
 
   two_told : (at : ℕ) (o e : Out) → Read s at o e → Told (two_once s c.lines c.nodes t.body o) (over (expr_shape s at) put_shape) (fill_put_two s c t e)
   unfolding two_once byte_is
-  two_told at (out (F.Got n free) M) e (q, x) = rw (x, sym q) (by (eqb (byte_at s n) 32) refl)
+  two_told at (out (Some (n, free)) M) e (q, x) = rw (x, sym q) (by (eqb (byte_at s n) 32) refl)
     where
-      by : (b : Bool) → eqb (byte_at s n) 32 ≡ b → Told (when b (λ _. rest_once s c.lines c.nodes (n + 1) free M t.body) (λ _. once F.Limit M t.body))
-          (over (when b (λ _. N.At (n + 1)) (λ _. N.Bad n)) (λ m. after (number_at s m) (space s (expr_shape s))))
+      by : (b : Bool) → eqb (byte_at s n) 32 ≡ b → Told (when b (λ _. rest_once s c.lines c.nodes (n + 1) free M t.body) (λ _. once None M t.body))
+          (over (when b (λ _. Ok (n + 1)) (λ _. Err n)) (λ m. after (number_at s m) (space s (expr_shape s))))
           (expr_line c t 2 0 0 (value_of (number_at s (n + 1))) (expression s 16 (next_of (number_at s (n + 1)) + 1) free M))
       by true z = rest_told (n + 1) free M
       by false z = λ m y b. not_at refl y
-  two_told at (out F.Limit M) e r = λ n y b. ⊎_elim (λ g. not_at {p = g.0} (rw g.1 refl) y) (two_limited e) r
+  two_told at (out None M) e r = λ n y b. ⊎_elim (λ g. not_at {p = g.0} (rw g.1 refl) y) (two_limited e) r
 
   -- ---- a line by its key
 
   abbrev stop : Onced
-  stop = once F.Limit t.nodes t.body
+  stop = once None t.nodes t.body
 
   in_room : (x : Onced) (shape : Next) (f : Filled) → Told x shape f → (ltb c.nodes 4096 ≡ false → Refuses f)
       → Told (when (ltb c.lines 512) (λ _. when (ltb c.nodes 4096) (λ _. x) (λ _. stop)) (λ _. stop)) shape (one_more c t f)
@@ -144,10 +141,10 @@ module _ (s : List ℕ) (c : Count) (t : Tables) where
   line_told vars key at h = key_told vars at (key_of key) h
 
 -- so there was room for the line
-pub line_room : (s : List ℕ) (key at i free : ℕ) (N B M C : List ℕ) (n f : ℕ) → once (F.Got n f) M C ≡ line_once s key at i free N B → i < 512
+pub line_room : (s : List ℕ) (key at i free : ℕ) (N B M C : List ℕ) (n f : ℕ) → once (Some (n, f)) M C ≡ line_once s key at i free N B → i < 512
 unfolding line_once
 line_room s key at i free N B M C n f q = by (ltb i 512) refl
   where
     by : (b : Bool) → ltb i 512 ≡ b → i < 512
     by true e = ltb-true i 512 e
-    by false e = let h : once (F.Got n f) M C ≡ once F.Limit N B = q ∙ rw e in let x : ◌≡◌ {A = ℕ} 0 1 = cc in absurd (omega arith)
+    by false e = let h : once (Some (n, f)) M C ≡ once None N B = q ∙ rw e in let x : ◌≡◌ {A = ℕ} 0 1 = cc in absurd (omega arith)

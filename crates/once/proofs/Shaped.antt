@@ -2,13 +2,10 @@
 use mathlib.Core.Logic.{◌⊎◌, inl, inr, ⊎_elim}
 use native.Mathlib.Omega.{arith}
 use borrow.Author.Tests.{eqb-true, ne_eqb}
-use Rattle.std.specs.Prelude.{◌+◌, ◌-◌, ◌*◌, ◌≤◌, ◌≡◌}
+use Rattle.std.specs.Prelude.{◌+◌, ◌-◌, ◌*◌, ◌≤◌, ◌≡◌, Some, None, Ok, Err}
 use Rattle.rules.specs.Prelude.{ℕ, zero, suc, Bool, true, false, List, refl, subst, ◌∙◌, ltb, eqb, length, set}
-use Rattle.rules.specs.declared.Head.{Head}
-use Rattle.rules.specs.declared.Head.TheVariants.{Node, Not}
-use Rattle.rules.specs.declared.Next.{Next}
-use Rattle.rules.specs.declared.Next.TheVariants as N
-use Rattle.rules.specs.declared.Filling.TheVariants as F
+use Rattle.rules.specs.Text.Words.{Head}
+use Rattle.rules.specs.Text.Words.{Next}
 use Rattle.rules.specs.When.{when}
 use Rattle.rules.proofs.Laws.Tests.{by_when}
 use Rattle.rules.specs.Text.Words.{byte_at, byte_is, arity, head_at}
@@ -19,60 +16,60 @@ use Rattle.once.specs.Once.{operands_once, node_once, expr_once}
 
 -- it ended at a limit
 abbrev pub Limited : Out → Type 0
-Limited (out (F.Got n free) N) = ⊥
-Limited (out F.Limit N) = Unit
+Limited (out (Some (n, free)) N) = ⊥
+Limited (out None N) = Unit
 
 onward_limited : (e : Out) (go : ℕ → ℕ → List ℕ → Out) → Limited e → Limited (onward e go)
-onward_limited (out F.Limit N) go h = tt
-onward_limited (out (F.Got _ _) N) go h = elim h [ ]
+onward_limited (out None N) go h = tt
+onward_limited (out (Some (_, _)) N) go h = elim h [ ]
 
 module _ (s : List ℕ) where
   -- the shape from n on, where so many expressions are still to come
   abbrev rest : ℕ → ℕ → ℕ → Next
-  rest left need n = when (eqb need 0) (λ _. N.At n) (λ _. space s (exprs_shape s left need) n)
+  rest left need n = when (eqb need 0) (λ _. Ok n) (λ _. space s (exprs_shape s left need) n)
 
   -- an expression at `at`, and then `need` more: the shape goes on at n, or stops. A word has a byte or more, so that there are words enough left
   abbrev Goes : ℕ → ℕ → Type 0
   Goes at n = (need left : ℕ) → length s ≤ at + left → (l : ℕ) × (length s ≤ n + l) × (exprs_shape s left (need + 1) at ≡ rest l need n)
 
   abbrev Stops : ℕ → Type 0
-  Stops at = (need left : ℕ) → length s ≤ at + left → (p : ℕ) × (exprs_shape s left (need + 1) at ≡ N.Bad p)
+  Stops at = (need left : ℕ) → length s ≤ at + left → (p : ℕ) × (exprs_shape s left (need + 1) at ≡ Err p)
 
   -- the same of k operands, after the word that ends at `at`
   abbrev GoesOn : ℕ → ℕ → ℕ → Type 0
   GoesOn k at n = (need left : ℕ) → length s ≤ at + left → (l : ℕ) × (length s ≤ n + l) × (rest left (need + k) at ≡ rest l need n)
 
   abbrev StopsOn : ℕ → ℕ → Type 0
-  StopsOn k at = (need left : ℕ) → length s ≤ at + left → (p : ℕ) × (rest left (need + k) at ≡ N.Bad p)
+  StopsOn k at = (need left : ℕ) → length s ≤ at + left → (p : ℕ) × (rest left (need + k) at ≡ Err p)
 
   -- what was read once, and what the rules write
   abbrev Tells : ℕ → Out → Out → Type 0
-  Tells at (out (F.Got n free) N) e = (out (F.Got n free) N ≡ e) × Goes at n
-  Tells at (out F.Limit N) e = Stops at ⊎ Limited e
+  Tells at (out (Some (n, free)) N) e = (out (Some (n, free)) N ≡ e) × Goes at n
+  Tells at (out None N) e = Stops at ⊎ Limited e
 
   abbrev TellsOn : ℕ → ℕ → Out → Out → Type 0
-  TellsOn k at (out (F.Got n free) N) e = (out (F.Got n free) N ≡ e) × GoesOn k at n
-  TellsOn k at (out F.Limit N) e = StopsOn k at ⊎ Limited e
+  TellsOn k at (out (Some (n, free)) N) e = (out (Some (n, free)) N ≡ e) × GoesOn k at n
+  TellsOn k at (out None N) e = StopsOn k at ⊎ Limited e
 
   -- ---- the first word
 
   module _ (at : ℕ) where
-    head_goes : {op a n : ℕ} → head_at s at ≡ Node op a n → (need left : ℕ) → length s ≤ at + left → (l : ℕ) × (length s ≤ n + l) × (exprs_shape s left (need + 1) at ≡ rest l (need + arity op) n)
+    head_goes : {op a n : ℕ} → head_at s at ≡ Ok (op, a, n) → (need left : ℕ) → length s ≤ at + left → (l : ℕ) × (length s ≤ n + l) × (exprs_shape s left (need + 1) at ≡ rest l (need + arity op) n)
     unfolding exprs_shape
     head_goes h need zero b = absurd (omega (arith, (head_read s at h).starts, (head_read s at h).ends))
     head_goes {op} h need (suc l) b =
         let q : need + 1 + arity op - 1 ≡ need + arity op = omega arith in
         (l, omega (arith, (head_read s at h).starts), rw (h, q))
 
-    with_head : {op a n : ℕ} → head_at s at ≡ Node op a n → (o e : Out) → TellsOn (arity op) n o e → Tells at o e
-    with_head h (out (F.Got m free) N) e (q, g) = (
+    with_head : {op a n : ℕ} → head_at s at ≡ Ok (op, a, n) → (o e : Out) → TellsOn (arity op) n o e → Tells at o e
+    with_head h (out (Some (m, free)) N) e (q, g) = (
       q,
       λ need left b.
           let w = head_goes h need left b in
           let v = g need w.0 w.1 in
           (v.0, v.1, w.2 ∙ v.2),
     )
-    with_head h (out F.Limit N) e t =
+    with_head h (out None N) e t =
         ⊎_elim
         (λ g. inl (λ need left b.
         let w = head_goes h need left b in
@@ -90,14 +87,14 @@ module _ (s : List ℕ) where
         rw (q, ne_eqb (need + k + 1) 0 (λ e. omega (arith, e)), z)
 
     one_more_lem : (n : ℕ) → Goes (at + 1) n → (o e : Out) → TellsOn k n o e → TellsOn (suc k) at o e
-    one_more_lem n g (out (F.Got m free) N) e (q, t) = (
+    one_more_lem n g (out (Some (m, free)) N) e (q, t) = (
       q,
       λ need left b.
           let w = g (need + k) left (omega arith) in
           let v = t need w.0 w.1 in
           (v.0, v.1, after_space left need ∙ w.2 ∙ v.2),
     )
-    one_more_lem n g (out F.Limit N) e t =
+    one_more_lem n g (out None N) e t =
         ⊎_elim
         (λ h. inl (λ need left b.
         let w = g (need + k) left (omega arith) in
@@ -117,10 +114,10 @@ module _ (s : List ℕ) where
   module _ (one ref : ℕ → ℕ → List ℕ → Out) (each : (at free : ℕ) (N : List ℕ) → Tells at (one at free N) (ref at free N)) where
     onward_tells : (k at : ℕ) → byte_at s at ≡ 32 → ((n free : ℕ) (N : List ℕ) → TellsOn k n (operands_once s one k n free N) (operands ref k n free N))
         → (o e : Out) → Tells (at + 1) o e → TellsOn (suc k) at (onward o (operands_once s one k)) (onward e (operands ref k))
-    onward_tells k at z others (out (F.Got n free) N) e (q, g) =
+    onward_tells k at z others (out (Some (n, free)) N) e (q, g) =
         subst (λ (x : Out). TellsOn (suc k) at (operands_once s one k n free N) (onward x (operands ref k))) q
         (one_more_lem k at z n g (operands_once s one k n free N) (operands ref k n free N) (others n free N))
-    onward_tells k at z others (out F.Limit N) e t = ⊎_elim (λ g. inl (no_more k at z g)) (λ h. inr (onward_limited e (operands ref k) h)) t
+    onward_tells k at z others (out None N) e t = ⊎_elim (λ g. inl (no_more k at z g)) (λ h. inr (onward_limited e (operands ref k) h)) t
 
     operands_tell : (k at free : ℕ) (N : List ℕ) → TellsOn k at (operands_once s one k at free N) (operands ref k at free N)
     unfolding operands_once operands
@@ -134,10 +131,10 @@ module _ (s : List ℕ) where
 
   module _ (one ref : ℕ → ℕ → List ℕ → Out) (each : (at free : ℕ) (N : List ℕ) → Tells at (one at free N) (ref at free N)) where
     node_tells : (at free : ℕ) (N : List ℕ) (h : Head) → head_at s at ≡ h → Tells at (node_once s one h free N) (node ref h free N)
-    node_tells at free N (Not p) q = inr tt
-    node_tells at free N (Node op a n) q = by (ltb free 4096)
+    node_tells at free N (Err p) q = inr tt
+    node_tells at free N (Ok (op, a, n)) q = by (ltb free 4096)
       where
-        by : (b : Bool) → Tells at (when b (λ _. operands_once s one (arity op) n (free + 1) (set N free (op * 4294967296 + a))) (λ _. out F.Limit N)) (when b (λ _. operands ref (arity op) n (free + 1) (set N free (op * 4294967296 + a))) (λ _. out F.Limit N))
+        by : (b : Bool) → Tells at (when b (λ _. operands_once s one (arity op) n (free + 1) (set N free (op * 4294967296 + a))) (λ _. out None N)) (when b (λ _. operands ref (arity op) n (free + 1) (set N free (op * 4294967296 + a))) (λ _. out None N))
         by true = with_head at q (operands_once s one (arity op) n (free + 1) (set N free (op * 4294967296 + a))) (operands ref (arity op) n (free + 1) (set N free (op * 4294967296 + a))) (operands_tell one ref each (arity op) n (free + 1) (set N free (op * 4294967296 + a)))
         by false = inr tt
 
@@ -148,21 +145,21 @@ module _ (s : List ℕ) where
 
   -- the same, of its shape alone
   abbrev pub Read : ℕ → Out → Out → Type 0
-  Read at (out (F.Got n free) M) e = (out (F.Got n free) M ≡ e) × (expr_shape s at ≡ N.At n)
-  Read at (out F.Limit M) e = ((p : ℕ) × (expr_shape s at ≡ N.Bad p)) ⊎ Limited e
+  Read at (out (Some (n, free)) M) e = (out (Some (n, free)) M ≡ e) × (expr_shape s at ≡ Ok n)
+  Read at (out None M) e = ((p : ℕ) × (expr_shape s at ≡ Err p)) ⊎ Limited e
 
   reads : (at : ℕ) (o e : Out) → Tells at o e → Read at o e
   unfolding expr_shape
-  reads at (out (F.Got n free) N) e (q, g) = (q, (g 0 (length s) (omega arith)).2)
-  reads at (out F.Limit N) e t = ⊎_elim (λ g. inl (g 0 (length s) (omega arith))) inr t
+  reads at (out (Some (n, free)) N) e (q, g) = (q, (g 0 (length s) (omega arith)).2)
+  reads at (out None N) e t = ⊎_elim (λ g. inl (g 0 (length s) (omega arith))) inr t
 
   pub expression_read : (d at free : ℕ) (N : List ℕ) → Read at (expr_once s d at free N) (expression s d at free N)
   expression_read d at free N = reads at (expr_once s d at free N) (expression s d at free N) (expression_tells d at free N)
 
 -- where there is no room for a node no expression is written
 node_full : (one : ℕ → ℕ → List ℕ → Out) (h : Head) (free : ℕ) (N : List ℕ) → ltb free 4096 ≡ false → Limited (node one h free N)
-node_full one (Not p) free N q = tt
-node_full one (Node op a n) free N q = rw q tt
+node_full one (Err p) free N q = tt
+node_full one (Ok (op, a, n)) free N q = rw q tt
 
 pub expression_full : (s : List ℕ) (d at free : ℕ) (N : List ℕ) → ltb free 4096 ≡ false → Limited (expression s d at free N)
 unfolding expression

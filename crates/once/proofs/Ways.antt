@@ -1,9 +1,8 @@
 -- Lines: one law for each way through their code. Assumes nothing.
 use borrow.Author.Tests.{lt-ltb, le-ltb, eq-eqb, ne_eqb}
-use Rattle.std.specs.Prelude.{◌+◌, ◌≤◌, ◌<◌, ◌≡◌}
+use Rattle.std.specs.Prelude.{◌+◌, ◌≤◌, ◌<◌, ◌≡◌, Some, None}
 use Rattle.rules.specs.Prelude.{ℕ, false, List, refl, sym, ap, ◌∙◌}
-use Rattle.rules.specs.declared.Filling.{Filling}
-use Rattle.rules.specs.declared.Filling.TheVariants as F
+use Rattle.rules.specs.Text.Fill.{Filling}
 use Rattle.rules.specs.Text.Words.{byte_at}
 use Rattle.rules.specs.Text.Shape.{Key, no_key, ret_k, type_k, param_k, local_k, set_k, put_k, goto_k, if_k, ifimm_k, iftag_k, ifint_k, return_k, label_k, key_of}
 use Rattle.rules.specs.Text.Fill.{Out, out, put_line}
@@ -13,34 +12,34 @@ use Rattle.once.specs.Once.{Onced, once, last_once, rest_once, two_once, key_onc
 -- ---- the last expression, which gave r and the nodes N
 
 module _ (s : List ℕ) (i k kind l v w : ℕ) (B : List ℕ) {o : Out} {r : Filling} {N : List ℕ} (e : out r N ≡ o) where
-  pub last_limit : r ≡ F.Limit → once F.Limit N B ≡ last_once s i k kind l v w B o
+  pub last_limit : r ≡ None → once None N B ≡ last_once s i k kind l v w B o
   unfolding last_once
   last_limit q = ap (last_once s i k kind l v w B) (ap (λ (x : Filling). out x N) (sym q) ∙ e)
 
-  module _ {n free : ℕ} (q : r ≡ F.Got n free) where
-    last_got : last_once s i k kind l v w B (out (F.Got n free) N) ≡ last_once s i k kind l v w B o
+  module _ {n free : ℕ} (q : r ≡ Some (n, free)) where
+    last_got : last_once s i k kind l v w B (out (Some (n, free)) N) ≡ last_once s i k kind l v w B o
     last_got = ap (last_once s i k kind l v w B) (ap (λ (x : Filling). out x N) (sym q) ∙ e)
 
-    pub last_no_feed : (byte_at s n ≡ 10 → ⊥) → once F.Limit N B ≡ last_once s i k kind l v w B o
+    pub last_no_feed : (byte_at s n ≡ 10 → ⊥) → once None N B ≡ last_once s i k kind l v w B o
     unfolding last_once
     last_no_feed h = rw (ne_eqb (byte_at s n) 10) at last_got
 
-    pub last_feed : byte_at s n ≡ 10 → {B' : List ℕ} → B' ≡ put_line B i kind l v w k → once (F.Got n free) N B' ≡ last_once s i k kind l v w B o
+    pub last_feed : byte_at s n ≡ 10 → {B' : List ℕ} → B' ≡ put_line B i kind l v w k → once (Some (n, free)) N B' ≡ last_once s i k kind l v w B o
     unfolding last_once
-    last_feed h p = ap (once (F.Got n free) N) p ∙ (rw (eq-eqb (byte_at s n) 10) at last_got)
+    last_feed h p = ap (once (Some (n, free)) N) p ∙ (rw (eq-eqb (byte_at s n) 10) at last_got)
 
 -- ---- the first expression of a `put`
 
 module _ (s : List ℕ) (i k : ℕ) (B : List ℕ) {o : Out} {r : Filling} {N : List ℕ} (e : out r N ≡ o) where
-  pub two_limit : r ≡ F.Limit → once F.Limit N B ≡ two_once s i k B o
+  pub two_limit : r ≡ None → once None N B ≡ two_once s i k B o
   unfolding two_once
   two_limit q = ap (two_once s i k B) (ap (λ (x : Filling). out x N) (sym q) ∙ e)
 
-  module _ {n free : ℕ} (q : r ≡ F.Got n free) where
-    two_got : two_once s i k B (out (F.Got n free) N) ≡ two_once s i k B o
+  module _ {n free : ℕ} (q : r ≡ Some (n, free)) where
+    two_got : two_once s i k B (out (Some (n, free)) N) ≡ two_once s i k B o
     two_got = ap (two_once s i k B) (ap (λ (x : Filling). out x N) (sym q) ∙ e)
 
-    pub two_no_space : (byte_at s n ≡ 32 → ⊥) → once F.Limit N B ≡ two_once s i k B o
+    pub two_no_space : (byte_at s n ≡ 32 → ⊥) → once None N B ≡ two_once s i k B o
     unfolding two_once
     two_no_space h = rw (ne_eqb (byte_at s n) 32) at two_got
 
@@ -51,11 +50,11 @@ module _ (s : List ℕ) (i k : ℕ) (B : List ℕ) {o : Out} {r : Filling} {N : 
 -- ---- a line by its key
 
 module _ (s : List ℕ) (key at i free : ℕ) (N B : List ℕ) where
-  pub lines_full : 512 ≤ i → line_once s key at i free N B ≡ once F.Limit N B
+  pub lines_full : 512 ≤ i → line_once s key at i free N B ≡ once None N B
   unfolding line_once
   lines_full h = rw (le-ltb i 512)
 
-  pub nodes_full : i < 512 → 4096 ≤ free → line_once s key at i free N B ≡ once F.Limit N B
+  pub nodes_full : i < 512 → 4096 ≤ free → line_once s key at i free N B ≡ once None N B
   unfolding line_once
   nodes_full h g = rw (lt-ltb i 512, le-ltb free 4096)
 
@@ -64,11 +63,11 @@ module _ (s : List ℕ) (key at i free : ℕ) (N B : List ℕ) where
   by_key h g j e = rw (lt-ltb i 512, lt-ltb free 4096, e)
 
   -- no other key has an expression
-  pub no_key_lem : has_expr (key_of key) ≡ false → key_once s (key_of key) at i free N B ≡ once F.Limit N B
+  pub no_key_lem : has_expr (key_of key) ≡ false → key_once s (key_of key) at i free N B ≡ once None N B
   unfolding has_expr key_once
   no_key_lem h = by (key_of key) h
     where
-      by : (k : Key) → has_expr k ≡ false → key_once s k at i free N B ≡ once F.Limit N B
+      by : (k : Key) → has_expr k ≡ false → key_once s k at i free N B ≡ once None N B
       by no_key q = refl
       by ret_k q = refl
       by type_k q = refl

@@ -17,20 +17,20 @@ fn expression(s: &[u8], depth: usize, at: usize, free: usize, nodes: &mut [u64; 
     ensures { fills.out result nodes.new ≡ expr_once s.now depth at free nodes.old }
 {
     if depth == 0 {
-        return Filling::Limit;
+        return None;
     }
     let h = head_at(s, at);
     match h {
-        Head::Not(_) => Filling::Limit,
-        Head::Node(op, a, n) => {
+        Err(_) => None,
+        Ok((op, a, n)) => {
             if Limits::NODES <= free {
-                return Filling::Limit;
+                return None;
             }
             put_node(nodes, free, op, a);
             let f = free + 1;
             let m = arity(op);
             if m == 0 {
-                return Filling::Got(n, f);
+                return Some((n, f));
             }
             operands(s, depth - 1, m, n, f, nodes)
         }
@@ -50,20 +50,20 @@ fn operands(
     ensures { fills.out result nodes.new ≡ operands_once s.now (expr_once s.now depth) n at free nodes.old }
 {
     if n == 0 {
-        return Filling::Got(at, free);
+        return Some((at, free));
     }
     if byte_at(s, at) != 32 {
-        return Filling::Limit;
+        return None;
     }
     let r = expression(s, depth, at + 1, free, nodes);
     match r {
-        Filling::Got(next, f) => {
+        Some((next, f)) => {
             if n == 1 {
-                return Filling::Got(next, f);
+                return Some((next, f));
             }
             operands(s, depth, n - 1, next, f, nodes)
         }
-        Filling::Limit => Filling::Limit,
+        None => None,
     }
 }
 
@@ -88,13 +88,13 @@ fn last_once(
 {
     let e = expression(s, Limits::DEPTH, at, free, nodes);
     match e {
-        Filling::Limit => Filling::Limit,
-        Filling::Got(n, f) => {
+        None => None,
+        Some((n, f)) => {
             if byte_at(s, n) != 10 {
-                return Filling::Limit;
+                return None;
             }
             put_line(body, line, kind, l, v, w, node);
-            Filling::Got(n, f)
+            Some((n, f))
         }
     }
 }
@@ -112,10 +112,10 @@ fn set_once(
     ensures { once result nodes.new body.new ≡ set_once s.now line node at nodes.old body.old }
 {
     match var_at(s, at) {
-        Reading::Bad(_) => Filling::Limit,
-        Reading::Got(v, n) => {
+        Err(_) => None,
+        Ok((v, n)) => {
             if byte_at(s, n) != 32 {
-                return Filling::Limit;
+                return None;
             }
             let free = node as usize;
             last_once(s, line, node, 1, 0, v as u32, 0, n + 1, free, nodes, body)
@@ -136,10 +136,10 @@ fn if_once(
     ensures { once result nodes.new body.new ≡ if_once s.now line node at nodes.old body.old }
 {
     match plain_at(s, at) {
-        Reading::Bad(_) => Filling::Limit,
-        Reading::Got(l, n) => {
+        Err(_) => None,
+        Ok((l, n)) => {
             if byte_at(s, n) != 32 {
-                return Filling::Limit;
+                return None;
             }
             let free = node as usize;
             last_once(s, line, node, 4, l as u32, 0, 0, n + 1, free, nodes, body)
@@ -161,10 +161,10 @@ fn put_rest(
     ensures { once result nodes.new body.new ≡ rest_once s.now line node n free nodes.old body.old }
 {
     match number_at(s, n) {
-        Reading::Bad(_) => Filling::Limit,
-        Reading::Got(w, m) => {
+        Err(_) => None,
+        Ok((w, m)) => {
             if byte_at(s, m) != 32 {
-                return Filling::Limit;
+                return None;
             }
             last_once(s, line, node, 2, 0, 0, w as u32, m + 1, free, nodes, body)
         }
@@ -185,10 +185,10 @@ fn put_once(
 {
     let e = expression(s, Limits::DEPTH, at, node as usize, nodes);
     match e {
-        Filling::Limit => Filling::Limit,
-        Filling::Got(n, f) => {
+        None => None,
+        Some((n, f)) => {
             if byte_at(s, n) != 32 {
-                return Filling::Limit;
+                return None;
             }
             put_rest(s, line, node, n + 1, f, nodes, body)
         }
@@ -209,10 +209,10 @@ pub fn line_once(
     ensures { once result nodes.new body.new ≡ line_once s.now k at line free nodes.old body.old }
 {
     if Limits::LINES <= line {
-        return Filling::Limit;
+        return None;
     }
     if Limits::NODES <= free {
-        return Filling::Limit;
+        return None;
     }
     let node = free as u32;
     match k {
@@ -220,6 +220,6 @@ pub fn line_once(
         6 => put_once(s, line, node, at, nodes, body),
         8 => if_once(s, line, node, at, nodes, body),
         12 => last_once(s, line, node, 8, 0, 0, 0, at, free, nodes, body),
-        _ => Filling::Limit,
+        _ => None,
     }
 }

@@ -3,12 +3,11 @@ use Rattle.std.proofs.Common.{length-append, arith}
 use Rattle.std.proofs.lemmas.List.{length-replicate}
 use Rattle.std.proofs.lemmas.List.Edits.{sets-eq}
 use Rattle.std.proofs.Math.Seq.{take-append_seam}
-use Rattle.std.specs.Prelude.{◌+◌, ◌/◌, ◌%◌, ◌≤◌, ◌∷◌, ◌≡◌}
+use Rattle.std.specs.Prelude.{◌+◌, ◌/◌, ◌%◌, ◌≤◌, ◌∷◌, ◌≡◌, Some, None}
 use Rattle.rules.specs.Prelude.{ℕ, zero, suc, List, [], ap, ◌∙◌, ltb, ℤ, pos, negsuc, length, take, drop, replicate}
 use Rattle.rules.specs.declared.Answer.{Answer}
 use Rattle.rules.specs.declared.Datum.TheVariants.{Int, Imm, Place}
-use Rattle.rules.specs.declared.Given.{Given}
-use Rattle.rules.specs.declared.Given.TheVariants.{Stuck, Has}
+use Rattle.rules.specs.Machine.{Given}
 use Rattle.rules.specs.declared.State.{State}
 use Rattle.rules.specs.declared.State.TheVariants as Q
 use Rattle.rules.proofs.Laws.Tests.{by_when}
@@ -36,10 +35,10 @@ signed_room (negsuc n) = omega (arith, decimal_room (n + 1))
 
 pub value_room : (v : Given) → length (value_text v) ≤ 22
 unfolding value_text
-value_room Stuck = omega arith
-value_room (Has (Int n)) = omega (arith, signed_room n.n)
-value_room (Has (Imm n)) = omega (arith, signed_room n.n)
-value_room (Has (Place b o)) = omega (arith, decimal_room b)
+value_room None = omega arith
+value_room (Some (Int n)) = omega (arith, signed_room n.n)
+value_room (Some (Imm n)) = omega (arith, signed_room n.n)
+value_room (Some (Place b o)) = omega (arith, decimal_room b)
 
 pub state_room : (s : State) → length (state_text s) ≤ 7
 state_room Q.Refused = omega arith

@@ -87,8 +87,8 @@ fn put_state(out: &mut [u8; 128], at: usize, s: State) -> usize
 
 #[tactic(auto, unfolding(rules::specs::Run::value_text))]
 fn put_datum(out: &mut [u8; 128], at: usize, d: Datum) -> usize
-    requires { at + length (value_text (Given.Has d)) ≤ 128 }
-    ensures { Puts out.old at (value_text (Given.Has d)) out.new result }
+    requires { at + length (value_text (Some d)) ≤ 128 }
+    ensures { Puts out.old at (value_text (Some d)) out.new result }
 {
     match d {
         Datum::Int(n) => {
@@ -112,8 +112,8 @@ fn put_value(out: &mut [u8; 128], at: usize, v: Given) -> usize
     ensures { Puts out.old at (value_text v) out.new result }
 {
     match v {
-        Given::Stuck => put_word(out, at, b"none"),
-        Given::Has(d) => put_datum(out, at, d),
+        None => put_word(out, at, b"none"),
+        Some(d) => put_datum(out, at, d),
     }
 }
 

@@ -2,13 +2,11 @@
 use native.Mathlib.Numerals.{sub-one}
 use native.Mathlib.Omega.{arith}
 use borrow.Author.Tests.{lt-ltb, eq-eqb, ne_eqb}
-use Rattle.std.specs.Prelude.{◌+◌, ◌-◌, ◌*◌, ◌≤◌, ◌<◌, ◌≡◌}
+use Rattle.std.specs.Prelude.{◌+◌, ◌-◌, ◌*◌, ◌≤◌, ◌<◌, ◌≡◌, Ok, Err}
 use Rattle.rules.specs.Prelude.{ℕ, zero, suc, Bool, true, false, List, refl, sym, ap, subst, ◌∙◌, ltb, eqb, set}
 use Rattle.rules.specs.declared.Count.{Count}
-use Rattle.rules.specs.declared.Reading.{Reading}
-use Rattle.rules.specs.declared.Reading.TheVariants.{Got, Bad}
-use Rattle.rules.specs.declared.Next.{Next}
-use Rattle.rules.specs.declared.Next.TheVariants as N
+use Rattle.rules.specs.Text.Words.{Reading}
+use Rattle.rules.specs.Text.Words.{Next}
 use Rattle.rules.specs.When.{when}
 use Rattle.rules.specs.Text.{lined, shaped}
 use Rattle.rules.specs.Text.Words.{byte_at, value_of, next_of, byte_is}
@@ -24,29 +22,29 @@ use Rattle.reader.specs.Labels.{Entered, entered, put_once, tag_once, offset_onc
 
 -- the shape of all entries, and what the rules fill
 abbrev All : Next → List ℕ → Entered → Type 0
-All x F (entered (N.At n) M) = (x ≡ N.At n) × (M ≡ F)
-All x F (entered (N.Bad p) M) = x ≡ N.Bad p
+All x F (entered (Ok n) M) = (x ≡ Ok n) × (M ≡ F)
+All x F (entered (Err p) M) = x ≡ Err p
 
 module _ (s : List ℕ) (l : ℕ) where
   -- ---- one entry: those after it are filled from where it ends
 
   module _ (v : ℕ) (L : List ℕ) where
     abbrev One : Next → (ℕ → List ℕ) → Entered → Type 0
-    One x fill (entered (N.At n) M) = (x ≡ N.At n) × ((more : ℕ) → fill more ≡ fill_entries s l more (v + 1) M (n + 1))
-    One x fill (entered (N.Bad p) M) = x ≡ N.Bad p
+    One x fill (entered (Ok n) M) = (x ≡ Ok n) × ((more : ℕ) → fill more ≡ fill_entries s l more (v + 1) M (n + 1))
+    One x fill (entered (Err p) M) = x ≡ Err p
 
     put_one : (b i : ℕ) (r : Reading) → One (end r) (λ more. fill_entries s l more (v + 1) (put_entry L l v b i (value_of r)) (next_of r + 1)) (put_once l v b i L r)
-    put_one b i (Bad p) = refl
-    put_one b i (Got t n) = (refl, λ more. refl)
+    put_one b i (Err p) = refl
+    put_one b i (Ok (t, n)) = (refl, λ more. refl)
 
     -- a word, a comma, and on
     after_one : (go : ℕ → ℕ → Entered) (shape : ℕ → Next) (fill : ℕ → ℕ → ℕ → List ℕ) → ((x n : ℕ) → One (shape n) (fill x n) (go x n))
-        → (r : Reading) → One (after r (λ n. over (byte_is s n 44) shape)) (fill (value_of r) (next_of r + 1)) (after_mark s 44 (λ p. entered (N.Bad p) L) go r)
+        → (r : Reading) → One (after r (λ n. over (byte_is s n 44) shape)) (fill (value_of r) (next_of r + 1)) (after_mark s 44 (λ p. entered (Err p) L) go r)
     unfolding after_mark byte_is
-    after_one go shape fill one (Bad p) = refl
-    after_one go shape fill one (Got x n) = by (eqb (byte_at s n) 44)
+    after_one go shape fill one (Err p) = refl
+    after_one go shape fill one (Ok (x, n)) = by (eqb (byte_at s n) 44)
       where
-        by : (b : Bool) → One (over (when b (λ _. N.At (n + 1)) (λ _. N.Bad n)) shape) (fill x (n + 1)) (when b (λ _. go x (n + 1)) (λ _. entered (N.Bad n) L))
+        by : (b : Bool) → One (over (when b (λ _. Ok (n + 1)) (λ _. Err n)) shape) (fill x (n + 1)) (when b (λ _. go x (n + 1)) (λ _. entered (Err n) L))
         by true = one x (n + 1)
         by false = refl
 
@@ -67,12 +65,12 @@ module _ (s : List ℕ) (l : ℕ) where
       → (e : Entered) → One v L x F e
       → All (over x (more_entries s (label_shape s more) more)) (F more) (more_once s (entries_once s l more (v + 1)) more e)
   unfolding byte_is fill_entries
-  more_all more v L x F rest (entered (N.Bad p) M) h = rw h refl
-  more_all zero v L x F rest (entered (N.At n) M) (h, f) = rw h (refl, sym (f 0))
-  more_all (suc more) v L x F rest (entered (N.At n) M) (h, f) = rw (h, f (suc more)) (by (eqb (byte_at s n) 32))
+  more_all more v L x F rest (entered (Err p) M) h = rw h refl
+  more_all zero v L x F rest (entered (Ok n) M) (h, f) = rw h (refl, sym (f 0))
+  more_all (suc more) v L x F rest (entered (Ok n) M) (h, f) = rw (h, f (suc more)) (by (eqb (byte_at s n) 32))
     where
-      by : (b : Bool) → All (over (when b (λ _. N.At (n + 1)) (λ _. N.Bad n)) (label_shape s (suc more))) (fill_entries s l (suc more) (v + 1) M (n + 1))
-          (when b (λ _. entries_once s l (suc more) (v + 1) (n + 1) M) (λ _. entered (N.Bad n) M))
+      by : (b : Bool) → All (over (when b (λ _. Ok (n + 1)) (λ _. Err n)) (label_shape s (suc more))) (fill_entries s l (suc more) (v + 1) M (n + 1))
+          (when b (λ _. entries_once s l (suc more) (v + 1) (n + 1) M) (λ _. entered (Err n) M))
       by true = rest (n + 1) M
       by false = refl
 
@@ -84,7 +82,7 @@ module _ (s : List ℕ) (l : ℕ) where
 
 -- ---- one law for each way through the code: an entry, after which `more` less one are still to come
 
-pub no_entries : (s : List ℕ) (l v at more : ℕ) (L : List ℕ) → more ≡ 0 → entered (N.At at) L ≡ entries_once s l more v at L
+pub no_entries : (s : List ℕ) (l v at more : ℕ) (L : List ℕ) → more ≡ 0 → entered (Ok at) L ≡ entries_once s l more v at L
 unfolding entries_once
 no_entries s l v at more L e = rw e
 
@@ -100,22 +98,22 @@ module _ (s : List ℕ) (l v at more : ℕ) (L : List ℕ) (p : 0 < more) {x : N
           (sym (sub-one (suc m)))
           (ap (more_once s (entries_once s l m (v + 1)) m) (ap (λ (n : Next). entered n M) (sym h) ∙ e))
 
-  pub entry_not : {q : ℕ} → x ≡ N.Bad q → entered (N.Bad q) M ≡ entries_once s l more v at L
+  pub entry_not : {q : ℕ} → x ≡ Err q → entered (Err q) M ≡ entries_once s l more v at L
   entry_not h = one_read h
 
-  module _ {n : ℕ} (h : x ≡ N.At n) where
-    pub entry_last : more - 1 ≡ 0 → entered (N.At n) M ≡ entries_once s l more v at L
+  module _ {n : ℕ} (h : x ≡ Ok n) where
+    pub entry_last : more - 1 ≡ 0 → entered (Ok n) M ≡ entries_once s l more v at L
     entry_last z = rw z at (one_read h)
 
     module _ (z : more - 1 ≡ 0 → ⊥) where
-      another : when (eqb (byte_at s n) 32) (λ _. entries_once s l (more - 1) (v + 1) (n + 1) M) (λ _. entered (N.Bad n) M) ≡ entries_once s l more v at L
+      another : when (eqb (byte_at s n) 32) (λ _. entries_once s l (more - 1) (v + 1) (n + 1) M) (λ _. entered (Err n) M) ≡ entries_once s l more v at L
       another = by (more - 1) z ∙ one_read h
         where
-          by : (m : ℕ) → (m ≡ 0 → ⊥) → when (eqb (byte_at s n) 32) (λ _. entries_once s l m (v + 1) (n + 1) M) (λ _. entered (N.Bad n) M) ≡ more_once s (entries_once s l m (v + 1)) m (entered (N.At n) M)
+          by : (m : ℕ) → (m ≡ 0 → ⊥) → when (eqb (byte_at s n) 32) (λ _. entries_once s l m (v + 1) (n + 1) M) (λ _. entered (Err n) M) ≡ more_once s (entries_once s l m (v + 1)) m (entered (Ok n) M)
           by zero k = absurd (k refl)
           by (suc m) k = refl
 
-      pub entry_bad : (byte_at s n ≡ 32 → ⊥) → entered (N.Bad n) M ≡ entries_once s l more v at L
+      pub entry_bad : (byte_at s n ≡ 32 → ⊥) → entered (Err n) M ≡ entries_once s l more v at L
       entry_bad k = rw (ne_eqb (byte_at s n) 32) at another
 
       pub entry_on : byte_at s n ≡ 32 → entries_once s l (more - 1) (v + 1) (n + 1) M ≡ entries_once s l more v at L
@@ -142,22 +140,22 @@ module _ (s : List ℕ) (at : ℕ) (c : Count) (t : Tables) where
         subst (All (label_shape s c.vars at) (fill_entries s c.labels c.vars 0 (set t.labels (c.labels * 97) (c.lines + 1)) at))
         (sym q ∙ ap (λ (z : Next). entered z M) h) (entries_all s c.labels c.vars 0 at _)
 
-    pub label_bad : {p : ℕ} → x ≡ N.Bad p → (u : Tables) (m : ℕ) (d : Count) → settled (lined 2 m d u) ≡ settled (shaped s 13 at c t (line_shape s c.vars (key_of 13) at))
+    pub label_bad : {p : ℕ} → x ≡ Err p → (u : Tables) (m : ℕ) (d : Count) → settled (lined 2 m d u) ≡ settled (shaped s 13 at c t (line_shape s c.vars (key_of 13) at))
     unfolding line_shape key_of
-    label_bad {p} h u m d = late_bad s 13 at c t u {x = N.Bad p} (sym (told_as (N.Bad p) h)) m d refl
+    label_bad {p} h u m d = late_bad s 13 at c t u {x = Err p} (sym (told_as (Err p) h)) m d refl
 
-    module _ {n : ℕ} (h : x ≡ N.At n) where
-      shape_ends : line_shape s c.vars (key_of 13) at ≡ N.At n
+    module _ {n : ℕ} (h : x ≡ Ok n) where
+      shape_ends : line_shape s c.vars (key_of 13) at ≡ Ok n
       unfolding line_shape key_of
-      shape_ends = (told_as (N.At n) h).0
+      shape_ends = (told_as (Ok n) h).0
 
       pub label_no_feed : (byte_at s n ≡ 10 → ⊥) → (u : Tables) (m : ℕ) (d : Count) → settled (lined 2 m d u) ≡ settled (shaped s 13 at c t (line_shape s c.vars (key_of 13) at))
-      label_no_feed z u m d = late_no_feed s 13 at c t u {x = N.At n} (sym shape_ends) refl m d z
+      label_no_feed z u m d = late_no_feed s 13 at c t u {x = Ok n} (sym shape_ends) refl m d z
 
       module _ (few : c.lines < 512) (room : c.labels < 64) {B : List ℕ} (p : B ≡ put_line t.body c.lines 9 c.labels 0 0 0) where
         filled_whole : fill_line s (key_of 13) at c t ≡ filled true (one_label (one_line c c.nodes)) (with_body (with_labels t M) B)
         unfolding fill_line key_of plain_line
-        filled_whole = rw (lt-ltb c.lines 512, label_room s at c t room, (told_as (N.At n) h).1, p) refl
+        filled_whole = rw (lt-ltb c.lines 512, label_room s at c t room, (told_as (Ok n) h).1, p) refl
 
         pub label_whole : byte_at s n ≡ 10 → {d : Count} → d ≡ in_part (one_label (one_line c c.nodes)) (part_of 13)
             → settled (lined 0 (n + 1) d (with_body (with_labels t M) B)) ≡ settled (shaped s 13 at c t (line_shape s c.vars (key_of 13) at))

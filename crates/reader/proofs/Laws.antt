@@ -3,15 +3,12 @@ use mathlib.Core.Logic.{⊎_elim}
 use native.Mathlib.Nat.{eq-zero-or-pos}
 use native.Mathlib.Omega.{arith}
 use borrow.Author.Tests.{ltb-true, eqb-true, eq-eqb, ne_eqb}
-use Rattle.std.specs.Prelude.{◌+◌, ◌-◌, ◌*◌, ◌≤◌, ◌<◌, ◌&&◌, ◌||◌, ◌≡◌}
+use Rattle.std.specs.Prelude.{◌+◌, ◌-◌, ◌*◌, ◌≤◌, ◌<◌, ◌&&◌, ◌||◌, ◌≡◌, Some, None, Ok, Err}
 use Rattle.rules.specs.Prelude.{ℕ, max, Bool, true, false, List, refl, ap, ◌∙◌, ltb, eqb, length, set}
 use Rattle.rules.specs.declared.Answer.{Answer}
 use Rattle.rules.specs.declared.Count.{Count}
-use Rattle.rules.specs.declared.Reading.{Reading}
-use Rattle.rules.specs.declared.Reading.TheVariants.{Got, Bad}
-use Rattle.rules.specs.declared.Next.{Next}
-use Rattle.rules.specs.declared.Next.TheVariants as N
-use Rattle.rules.specs.declared.Filling.TheVariants as F
+use Rattle.rules.specs.Text.Words.{Reading}
+use Rattle.rules.specs.Text.Words.{Next}
 use Rattle.rules.proofs.Laws.Tests.{by_when}
 use Rattle.rules.specs.Text.{TextOut, Lined, lined, limited, shaped, keyed, line_at}
 use Rattle.rules.specs.Text.Words.{byte_at, value_of, next_of, plain_at, number_at, var_at}
@@ -48,10 +45,10 @@ module _ (s : List ℕ) (at : ℕ) where
   pub kind_near : {x : Reading} → Placed s at → x ≡ kind_word s at → next_of x ≤ 32768
   kind_near p q = omega (arith, next_in at (kind_reads s at) q)
 
-  pub kind_bad : {p : ℕ} → Bad p ≡ kind_word s at → Worded s at (kind_value s (kind_word s at)) (kind_next s (kind_word s at)) 0 (p + 1)
+  pub kind_bad : {p : ℕ} → Err p ≡ kind_word s at → Worded s at (kind_value s (kind_word s at)) (kind_next s (kind_word s at)) 0 (p + 1)
   kind_bad q = record { gives = ap (kind_value s) q; goes = ap (λ (z : Reading). kind_next s z + 1) q; near = omega (arith, next_in at (kind_reads s at) q) }
 
-  module _ (k n : ℕ) (q : Got k n ≡ kind_word s at) where
+  module _ (k n : ℕ) (q : Ok (k, n) ≡ kind_word s at) where
     pub kind_int : k ≡ 0 → Worded s at (kind_value s (kind_word s at)) (kind_next s (kind_word s at)) 1 (n + 1)
     kind_int z = rw (← q, eq-eqb k 0 z) (record { gives = refl; goes = refl; near = omega (arith, next_in at (kind_reads s at) q) })
 
@@ -116,15 +113,15 @@ module _ (s : List ℕ) (at : ℕ) (c : Count) (t : Tables) (h : Within c) where
     plain_fits u kind l v w = line_within c.nodes h.few_nodes
 
     out_fits : (u : Tables) (kind l v w : ℕ) (o : Out) → Ends (length s) o → FitsFilled (expr_line c u kind l v w o)
-    out_fits u kind l v w (out (F.Got n free) N) e = line_within free e.1
-    out_fits u kind l v w (out F.Limit N) e = h
+    out_fits u kind l v w (out (Some (n, free)) N) e = line_within free e.1
+    out_fits u kind l v w (out None N) e = h
 
     expr_fits : (kind l v w n free : ℕ) (N : List ℕ) → FitsFilled (expr_line c t kind l v w (expression s 16 n free N))
     expr_fits kind l v w n free N = out_fits t kind l v w (expression s 16 n free N) (expression_ends s 16 n free N)
 
     put_fits : (o : Out) → FitsFilled (fill_put_two s c t o)
-    put_fits (out (F.Got n free) N) = expr_fits 2 0 0 (value_of (number_at s (n + 1))) (next_of (number_at s (n + 1)) + 1) free N
-    put_fits (out F.Limit N) = h
+    put_fits (out (Some (n, free)) N) = expr_fits 2 0 0 (value_of (number_at s (n + 1))) (next_of (number_at s (n + 1)) + 1) free N
+    put_fits (out None N) = h
 
   label_fits : c.lines < 512 → FitsFilled (fill_label s at c t)
   unfolding fill_label plain_line
@@ -158,13 +155,13 @@ module _ (s : List ℕ) (at : ℕ) (c : Count) (t : Tables) (h : Within c) where
   limited_fits k n (filled false d u) f = f
 
   shaped_fits : (k n : ℕ) (x : Next) → ((p : Key) → FitsFilled (fill_line s p n c t)) → FitsLined (shaped s k n c t x)
-  shaped_fits k n (N.Bad p) f = h
-  shaped_fits k n (N.At m) f = by_when FitsLined (eqb (byte_at s m) 10) _ _ (λ _. limited_fits k (m + 1) (fill_line s (key_of k) n c t) (f (key_of k))) (λ _. h)
+  shaped_fits k n (Err p) f = h
+  shaped_fits k n (Ok m) f = by_when FitsLined (eqb (byte_at s m) 10) _ _ (λ _. limited_fits k (m + 1) (fill_line s (key_of k) n c t) (f (key_of k))) (λ _. h)
 
 module _ (s : List ℕ) (at : ℕ) (c : Count) (t : Tables) (h : Within c) where
   keyed_fits : (r : Reading) → FitsLined (keyed s at c t r)
-  keyed_fits (Bad p) = h
-  keyed_fits (Got k n) = by_when FitsLined (in_order c.part k) _ _ (λ _. shaped_fits s n c t h k n (line_shape s c.vars (key_of k) n) (fill_fits s n c t h)) (λ _. h)
+  keyed_fits (Err p) = h
+  keyed_fits (Ok (k, n)) = by_when FitsLined (in_order c.part k) _ _ (λ _. shaped_fits s n c t h k n (line_shape s c.vars (key_of k) n) (fill_fits s n c t h)) (λ _. h)
 
   pub line_fits : FitsLined (line_at s at c t)
   unfolding line_at

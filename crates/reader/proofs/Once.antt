@@ -3,13 +3,11 @@ use mathlib.Core.Logic.{⊎_elim}
 use native.Mathlib.Nat.{eq-zero-or-pos}
 use native.Mathlib.Omega.{arith}
 use borrow.Author.Tests.{eq-eqb, ne_eqb}
-use Rattle.std.specs.Prelude.{◌+◌, ◌-◌, ◌≤◌, ◌<◌, ◌≡◌}
+use Rattle.std.specs.Prelude.{◌+◌, ◌-◌, ◌≤◌, ◌<◌, ◌≡◌, Some, None, Ok, Err}
 use Rattle.rules.specs.Prelude.{ℕ, Bool, true, false, List, refl, sym, ap, subst, ◌∙◌, eqb, length}
 use Rattle.rules.specs.declared.Count.{Count}
-use Rattle.rules.specs.declared.Next.{Next}
-use Rattle.rules.specs.declared.Next.TheVariants as N
-use Rattle.rules.specs.declared.Filling.{Filling}
-use Rattle.rules.specs.declared.Filling.TheVariants as F
+use Rattle.rules.specs.Text.Words.{Next}
+use Rattle.rules.specs.Text.Fill.{Filling}
 use Rattle.rules.proofs.Laws.Tests.{by_when}
 use Rattle.rules.specs.Text.{TextOut, Lined, lined, limited, shaped, and_line}
 use Rattle.rules.specs.Text.Words.{byte_at}
@@ -78,7 +76,7 @@ module _ (s : List ℕ) (k at : ℕ) (c : Count) (t : Tables) (e : has_expr (key
       subst (λ (y : Onced). Told s c t y (line_shape s c.vars (key_of k) at) (fill_line s (key_of k) at c t))
       (sym q ∙ ap (λ (z : Filling). once z M B) h) (line_told s c t c.vars k at e)
 
-  module _ {n f : ℕ} (h : r ≡ F.Got n f) where
+  module _ {n f : ℕ} (h : r ≡ Some (n, f)) where
     pub once_room : c.lines < 512
     once_room = line_room s k at c.lines c.nodes t.nodes t.body M B n f (ap (λ (z : Filling). once z M B) (sym h) ∙ q)
 
@@ -89,16 +87,16 @@ module _ (s : List ℕ) (k at : ℕ) (c : Count) (t : Tables) (e : has_expr (key
         → settled (lined 0 (n + 1) d (with_body (with_nodes t M) B)) ≡ settled (shaped s k at c t (line_shape s c.vars (key_of k) at))
     once_line g = let w = told_as _ h in rw (g, w.0, eq-eqb (byte_at s n) 10 w.1, w.2) refl
 
-  pub once_late : r ≡ F.Limit → Late s k at c t
-  once_late h = told_as F.Limit h
+  pub once_late : r ≡ None → Late s k at c t
+  once_late h = told_as None h
 
 -- ---- not read at once
 
 module _ (s : List ℕ) (k at : ℕ) (c : Count) (t u : Tables) {x : Next} (q : x ≡ line_shape s c.vars (key_of k) at) where
-  pub late_bad : {p : ℕ} (m : ℕ) (d : Count) → x ≡ N.Bad p → settled (lined 2 m d u) ≡ settled (shaped s k at c t (line_shape s c.vars (key_of k) at))
+  pub late_bad : {p : ℕ} (m : ℕ) (d : Count) → x ≡ Err p → settled (lined 2 m d u) ≡ settled (shaped s k at c t (line_shape s c.vars (key_of k) at))
   late_bad {p} m d h = rw (sym q ∙ h) (same_number 2 m p d c u t (λ e. omega (arith, e)))
 
-  module _ {n : ℕ} (h : x ≡ N.At n) (m : ℕ) (d : Count) where
+  module _ {n : ℕ} (h : x ≡ Ok n) (m : ℕ) (d : Count) where
     pub late_no_feed : (byte_at s n ≡ 10 → ⊥) → settled (lined 2 m d u) ≡ settled (shaped s k at c t (line_shape s c.vars (key_of k) at))
     late_no_feed z = rw (sym q ∙ h, ne_eqb (byte_at s n) 10 z) (same_number 2 m n d c u t (λ e. omega (arith, e)))
 

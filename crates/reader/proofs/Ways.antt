@@ -2,14 +2,12 @@
 use native.Mathlib.Numerals.{sub-one}
 use native.Mathlib.Omega.{arith}
 use borrow.Author.Tests.{lt-ltb, le-ltb, eq-eqb, ne_eqb}
-use Rattle.std.specs.Prelude.{◌+◌, ◌-◌, ◌*◌, ◌≤◌, ◌<◌, ◌&&◌, ◌||◌, ◌≡◌}
+use Rattle.std.specs.Prelude.{◌+◌, ◌-◌, ◌*◌, ◌≤◌, ◌<◌, ◌&&◌, ◌||◌, ◌≡◌, Ok, Err}
 use Rattle.rules.specs.Prelude.{ℕ, zero, suc, Bool, true, false, List, refl, sym, ap, ◌∙◌, ltb, eqb, length, set}
 use Rattle.rules.specs.declared.Answer.{Answer}
 use Rattle.rules.specs.declared.Count.{Count}
-use Rattle.rules.specs.declared.Reading.{Reading}
-use Rattle.rules.specs.declared.Reading.TheVariants.{Got}
-use Rattle.rules.specs.declared.Next.{Next}
-use Rattle.rules.specs.declared.Next.TheVariants as N
+use Rattle.rules.specs.Text.Words.{Reading}
+use Rattle.rules.specs.Text.Words.{Next}
 use Rattle.rules.specs.When.{when}
 use Rattle.rules.specs.Answers.{answer, accepted}
 use Rattle.rules.specs.Text.{TextOut, stopped, Lined, lined, limited, shaped, keyed, line_at, ended, and_line, lines_from}
@@ -139,16 +137,16 @@ module _ (s : List ℕ) (at : ℕ) (c : Count) (t : Tables) where
   -- ---- a line, whole
 
   module _ (k : ℕ) where
-    pub no_feed : (n : ℕ) → (byte_at s n ≡ 10 → ⊥) → shaped s k at c t (N.At n) ≡ lined 2 n c t
+    pub no_feed : (n : ℕ) → (byte_at s n ≡ 10 → ⊥) → shaped s k at c t (Ok n) ≡ lined 2 n c t
     no_feed n h = rw (ne_eqb (byte_at s n) 10)
 
-    pub feed : (n : ℕ) {x : Filled} → byte_at s n ≡ 10 → x ≡ fill_line s (key_of k) at c t → shaped s k at c t (N.At n) ≡ limited k (n + 1) x
+    pub feed : (n : ℕ) {x : Filled} → byte_at s n ≡ 10 → x ≡ fill_line s (key_of k) at c t → shaped s k at c t (Ok n) ≡ limited k (n + 1) x
     feed n h e = rw (eq-eqb (byte_at s n) 10, e)
 
-    pub not_ordered : (start : ℕ) → in_order c.part k ≡ false → keyed s start c t (Got k at) ≡ lined 2 start c t
+    pub not_ordered : (start : ℕ) → in_order c.part k ≡ false → keyed s start c t (Ok (k, at)) ≡ lined 2 start c t
     not_ordered start e = rw e
 
-    pub ordered : (start : ℕ) {x : Next} → in_order c.part k ≡ true → x ≡ line_shape s c.vars (key_of k) at → keyed s start c t (Got k at) ≡ shaped s k at c t x
+    pub ordered : (start : ℕ) {x : Next} → in_order c.part k ≡ true → x ≡ line_shape s c.vars (key_of k) at → keyed s start c t (Ok (k, at)) ≡ shaped s k at c t x
     ordered start e q = rw (e, q)
 
 -- ---- the text, whole

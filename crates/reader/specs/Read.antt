@@ -1,10 +1,9 @@
 -- What the contracts of the reader say in one name each: where a line may stand, counts within the limits, and what the tables hold at the end. Assumes nothing.
-use Rattle.std.specs.Prelude.{ℕ, ◌+◌, ◌≤◌, ◌<◌, max, ◌≡◌, refl, List, false, ltb, eqb, length}
+use Rattle.std.specs.Prelude.{ℕ, ◌+◌, ◌≤◌, ◌<◌, max, ◌≡◌, refl, List, false, ltb, eqb, length, Ok, Err}
 use Rattle.rules.specs.declared.Answer.{Answer}
 use Rattle.rules.specs.declared.Count.{Count}
 use Rattle.rules.specs.When.{when}
 use Rattle.rules.specs.Limits.{limits}
-use Rattle.rules.specs.declared.Next.TheVariants as N
 use Rattle.rules.specs.Text.Words.{byte_at}
 use Rattle.rules.specs.Text.Shape.{key_of, line_shape}
 use Rattle.rules.specs.Text.Layout.{Tables, nothing, zeros}
@@ -63,7 +62,7 @@ settled (lined a n c t) = when (eqb a 0) (λ _. lined a n c t) (λ _. lined a 0 
 
 -- a line of the right shape passes a limit
 abbrev pub Late : List ℕ → ℕ → ℕ → Count → Tables → Type 0
-Late s k at c t = (n : ℕ) → line_shape s c.vars (key_of k) at ≡ N.At n → byte_at s n ≡ 10 → Refuses (fill_line s (key_of k) at c t)
+Late s k at c t = (n : ℕ) → line_shape s c.vars (key_of k) at ≡ Ok n → byte_at s n ≡ 10 → Refuses (fill_line s (key_of k) at c t)
 
 -- ---- tables
 

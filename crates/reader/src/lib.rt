@@ -170,11 +170,11 @@ fn kind_code(s: &[u8], at: usize) -> Word
 {
     let k = kind_word(s, at);
     match k {
-        Reading::Bad(p) => Word {
+        Err(p) => Word {
             value: 0,
             past: p + 1,
         },
-        Reading::Got(which, n) => {
+        Ok((which, n)) => {
             if which == 0 {
                 return Word {
                     value: 1,
@@ -485,7 +485,7 @@ fn shaped_line(
     body: &mut [u32; 2560],
 ) -> Lined
     requires { Ready s.now at c × ((1 ≤ k) × ((k < 13) × (has_expr (shapes.key_of k) ≡ false))) }
-    ensures { (Z N L : List ℕ) → texts.lined result.answer result.next result.count (tables_of Z N rows.new vars.new L body.new) ≡ texts.shaped s.now k at c (tables_of Z N rows.old vars.old L body.old) (Next.At n) }
+    ensures { (Z N L : List ℕ) → texts.lined result.answer result.next result.count (tables_of Z N rows.new vars.new L body.new) ≡ texts.shaped s.now k at c (tables_of Z N rows.old vars.old L body.old) (Ok n) }
 {
     if byte_at(s, n) != 10 {
         return refused(2, n, c);
@@ -500,13 +500,13 @@ fn late(s: &[u8], k: u64, at: usize, c: Count) -> Lined
 {
     let x = line_shape(s, c.vars, k, at);
     match x {
-        Next::At(n) => {
+        Ok(n) => {
             if byte_at(s, n) != 10 {
                 return refused(2, n, c);
             }
             refused(3, n, c)
         }
-        Next::Bad(q) => refused(2, q, c),
+        Err(q) => refused(2, q, c),
     }
 }
 
@@ -524,12 +524,12 @@ fn expr_line(
 {
     let r = line_once(s, k, at, c.lines, c.nodes, nodes, body);
     match r {
-        Filling::Got(n, f) => Lined {
+        Some((n, f)) => Lined {
             answer: 0,
             next: n + 1,
             count: in_part(one_line(c, f), part_of(k)),
         },
-        Filling::Limit => late(s, k, at, c),
+        None => late(s, k, at, c),
     }
 }
 
@@ -549,10 +549,10 @@ fn tag_once(
     ensures { entered result labels.new ≡ tag_once s.now l v b i at labels.old }
 {
     match tag_at(s, at) {
-        Reading::Bad(p) => Next::Bad(p),
-        Reading::Got(t, n) => {
+        Err(p) => Err(p),
+        Ok((t, n)) => {
             put_entry(labels, l, v, b, i, t);
-            Next::At(n)
+            Ok(n)
         }
     }
 }
@@ -563,10 +563,10 @@ fn offset_once(s: &[u8], l: usize, v: usize, b: u64, at: usize, labels: &mut [u6
     ensures { entered result labels.new ≡ offset_once s.now l v b at labels.old }
 {
     match offset_at(s, at) {
-        Reading::Bad(p) => Next::Bad(p),
-        Reading::Got(i, n) => {
+        Err(p) => Err(p),
+        Ok((i, n)) => {
             if byte_at(s, n) != 44 {
-                return Next::Bad(n);
+                return Err(n);
             }
             tag_once(s, l, v, b, i, n + 1, labels)
         }
@@ -579,10 +579,10 @@ fn entry_once(s: &[u8], l: usize, v: usize, at: usize, labels: &mut [u64; 6208])
     ensures { entered result labels.new ≡ entry_once s.now l v at labels.old }
 {
     match boxed_at(s, at) {
-        Reading::Bad(p) => Next::Bad(p),
-        Reading::Got(b, n) => {
+        Err(p) => Err(p),
+        Ok((b, n)) => {
             if byte_at(s, n) != 44 {
-                return Next::Bad(n);
+                return Err(n);
             }
             offset_once(s, l, v, b, n + 1, labels)
         }
@@ -601,22 +601,22 @@ fn entries_once(s: &[u8], l: usize, vars: usize, from: usize, labels: &mut [u64;
     while 0 < more {
         more -= 1;
         match entry_once(s, l, v, at, labels) {
-            Next::Bad(p) => {
-                return Next::Bad(p);
+            Err(p) => {
+                return Err(p);
             }
-            Next::At(n) => {
+            Ok(n) => {
                 if more == 0 {
-                    return Next::At(n);
+                    return Ok(n);
                 }
                 if byte_at(s, n) != 32 {
-                    return Next::Bad(n);
+                    return Err(n);
                 }
                 at = n + 1;
                 v += 1;
             }
         }
     }
-    Next::At(at)
+    Ok(at)
 }
 
 // A label. Its limits are known before its entries are read, and it is looked at for its shape alone only if it passes one.
@@ -640,8 +640,8 @@ fn label_line(
     put_label_line(labels, c.labels, c.lines as u64 + 1);
     let e = entries_once(s, c.labels, c.vars, at, labels);
     match e {
-        Next::Bad(p) => refused(2, p, c),
-        Next::At(n) => {
+        Err(p) => refused(2, p, c),
+        Ok(n) => {
             if byte_at(s, n) != 10 {
                 return refused(2, n, c);
             }
@@ -682,7 +682,7 @@ fn keyed_line(
     body: &mut [u32; 2560],
 ) -> Lined
     requires { Ready s.now at c × ((1 ≤ k) × (k ≤ 13)) }
-    ensures { (Z : List ℕ) → settled (texts.lined result.answer result.next result.count (tables_of Z nodes.new rows.new vars.new labels.new body.new)) ≡ settled (texts.keyed s.now start c (tables_of Z nodes.old rows.old vars.old labels.old body.old) (Reading.Got k at)) }
+    ensures { (Z : List ℕ) → settled (texts.lined result.answer result.next result.count (tables_of Z nodes.new rows.new vars.new labels.new body.new)) ≡ settled (texts.keyed s.now start c (tables_of Z nodes.old rows.old vars.old labels.old body.old) (Ok (k, at))) }
 {
     if !in_order(c.part, k) {
         return refused(2, start, c);
@@ -695,8 +695,8 @@ fn keyed_line(
     }
     let x = line_shape(s, c.vars, k, at);
     match x {
-        Next::At(n) => shaped_line(s, k, at, n, c, rows, vars, body),
-        Next::Bad(p) => refused(2, p, c),
+        Ok(n) => shaped_line(s, k, at, n, c, rows, vars, body),
+        Err(p) => refused(2, p, c),
     }
 }
 
@@ -716,8 +716,8 @@ fn line_at(
 {
     let w = key_at(s, at);
     match w {
-        Reading::Got(k, n) => keyed_line(s, at, k, n, c, nodes, rows, vars, labels, body),
-        Reading::Bad(p) => refused(2, p, c),
+        Ok((k, n)) => keyed_line(s, at, k, n, c, nodes, rows, vars, labels, body),
+        Err(p) => refused(2, p, c),
     }
 }
 

@@ -1,6 +1,6 @@
 -- Demand 3, of the definitions, from the bytes of two texts. The three demands of the code stand in crates/demands/specs/Demands.antt, and rest on this one. Assumes nothing.
 use Rattle.std.specs.Prelude.{◌≡◌}
-use Rattle.rules.specs.Prelude.{ℕ, List, Stuck}
+use Rattle.rules.specs.Prelude.{ℕ, List, None}
 use Rattle.rules.specs.Answers.{accepted}
 use Rattle.rules.specs.Program.{Prog}
 use Rattle.rules.specs.View.{program}
@@ -29,5 +29,5 @@ demand3 glue store ok fits n = passed_never_wrong (checked glue).tables (accepte
 
 -- The count is the number of steps: until the return, n steps have been counted after n steps. (A returned machine stays as it is and counts no more: Laws/Steps, returned_stays.)
 pub counted : (glue store : List ℕ) → verdict glue ≡ accepted → (read_store (program_of glue) store).answer ≡ accepted
-    → (n : ℕ) → (after glue store n).value ≡ Stuck → (after glue store n).steps ≡ n
+    → (n : ℕ) → (after glue store n).value ≡ None → (after glue store n).steps ≡ n
 counted glue store ok fits n = passed_counts (checked glue).tables (accepted_check glue ok) store fits n

@@ -1,9 +1,10 @@
 -- Typing, the statements: the rule of each, 6 to 12 line by line, then 13. Assumes nothing.
 use Rattle.std.specs.Prelude.{◌+◌, ◌&&◌, ◌∷◌, ◌++◌}
-use Rattle.rules.specs.Prelude.{ℕ, Bool, true, false, List, [], map, ltb, length, Num, Boxed, Entry, Env, Kind, Cint, Value, Answer, Judged, No, Ok, Addr, Line}
+use Rattle.rules.specs.Typing.{Judged}
+use Rattle.rules.specs.Typing.{Addr}
+use Rattle.rules.specs.Prelude.{ℕ, Bool, true, false, List, [], map, ltb, length, Num, Boxed, Entry, Env, Kind, Cint, Value, Answer, Err, Ok, Line}
 use Rattle.rules.specs.Prelude.B
 use Rattle.rules.specs.Prelude.G
-use Rattle.rules.specs.Prelude.A
 use Rattle.rules.specs.When.{need, One, when}
 use Rattle.rules.specs.Numbers.{among, suits}
 use Rattle.rules.specs.Answers.{first, accepted, answer, answers}
@@ -35,51 +36,51 @@ is_imm B.Block = false
 
 -- `set`: same kind and row (6); the variable takes E's entry
 unfoldable pub rule_set : List Var → ℕ → Judged → Env → Line
-rule_set D v (No n) Γ = refuse n Γ
-rule_set D v (Ok k e) Γ = need (refuse 6 Γ) (same_kind k (kind_at D v)) (goes true (with_entry Γ v e))
+rule_set D v (Err n) Γ = refuse n Γ
+rule_set D v (Ok (k, e)) Γ = need (refuse 6 Γ) (same_kind k (kind_at D v)) (goes true (with_entry Γ v e))
 
 -- `put=A N E`: A and E judged, then A addressed with amount N, then E a value of the field's row (6), offset 0 (10)
 abbrev pub put_at : Rows → ℕ → Kind → Entry → Addr → Env → Line
-put_at ρ r l d (A.Bad n) Γ = refuse n Γ
-put_at ρ r l d (A.At t o) Γ = need (refuse 6 Γ) (same_kind l (Value (field_of ρ r t o))) (need (refuse 10 Γ) (is_zero d.offset) (goes true Γ))
+put_at ρ r l d (Err n) Γ = refuse n Γ
+put_at ρ r l d (Ok (t, o)) Γ = need (refuse 6 Γ) (same_kind l (Value (field_of ρ r t o))) (need (refuse 10 Γ) (is_zero d.offset) (goes true Γ))
 
 unfoldable pub rule_put : Rows → Num → Judged → Judged → Env → Line
-rule_put ρ m (No n) y Γ = refuse n Γ
-rule_put ρ m (Ok k e) (No n) Γ = refuse n Γ
-rule_put ρ m (Ok Cint e) (Ok l d) Γ = refuse 6 Γ
-rule_put ρ m (Ok (Value r) e) (Ok l d) Γ = put_at ρ r l d (address_of ρ r e (G.Known m)) Γ
+rule_put ρ m (Err n) y Γ = refuse n Γ
+rule_put ρ m (Ok (k, e)) (Err n) Γ = refuse n Γ
+rule_put ρ m (Ok (Cint, e)) (Ok (l, d)) Γ = refuse 6 Γ
+rule_put ρ m (Ok (Value r, e)) (Ok (l, d)) Γ = put_at ρ r l d (address_of ρ r e (G.Known m)) Γ
 
 unfoldable pub rule_goto : List Label → ℕ → Env → Line
 rule_goto L l Γ = jump L l Γ Γ (goes false Γ)
 
 -- `if`: E int (6)
 unfoldable pub rule_if : List Label → ℕ → Judged → Env → Line
-rule_if L l (No n) Γ = refuse n Γ
-rule_if L l (Ok (Value r) e) Γ = refuse 6 Γ
-rule_if L l (Ok Cint e) Γ = jump L l Γ Γ (goes true Γ)
+rule_if L l (Err n) Γ = refuse n Γ
+rule_if L l (Ok (Value r, e)) Γ = refuse 6 Γ
+rule_if L l (Ok (Cint, e)) Γ = jump L l Γ Γ (goes true Γ)
 
 -- `ifimm`: value (6), I 0 (10); jumping B is `imm`, falling `box`
 unfoldable pub rule_ifimm : List Label → ℕ → ℕ → Judged → Env → Line
-rule_ifimm L l v (No n) Γ = refuse n Γ
-rule_ifimm L l v (Ok Cint e) Γ = refuse 6 Γ
-rule_ifimm L l v (Ok (Value r) e) Γ =
+rule_ifimm L l v (Err n) Γ = refuse n Γ
+rule_ifimm L l v (Ok (Cint, e)) Γ = refuse 6 Γ
+rule_ifimm L l v (Ok (Value r, e)) Γ =
     need (refuse 10 Γ) (is_zero e.offset)
     (jump L l (with_entry Γ v (with_boxed e B.Imm)) Γ (goes true (with_entry Γ v (with_boxed e B.Block))))
 
 -- `iftag`: value (6), I 0 (10), B `box` (7), tag exists (8); jumping T is N; falls through unchanged
 unfoldable pub rule_iftag : Rows → List Label → ℕ → ℕ → Num → Judged → Env → Line
-rule_iftag ρ L l v n (No a) Γ = refuse a Γ
-rule_iftag ρ L l v n (Ok Cint e) Γ = refuse 6 Γ
-rule_iftag ρ L l v n (Ok (Value r) e) Γ =
+rule_iftag ρ L l v n (Err a) Γ = refuse a Γ
+rule_iftag ρ L l v n (Ok (Cint, e)) Γ = refuse 6 Γ
+rule_iftag ρ L l v n (Ok (Value r, e)) Γ =
     need (refuse 10 Γ) (is_zero e.offset)
     (need (refuse 7 Γ) (is_box e.boxed)
     (need (refuse 8 Γ) (among n.n (prods_of ρ r)) (jump L l (with_entry Γ v (with_tag e n)) Γ (goes true Γ))))
 
 -- `ifint`: value (6), I 0 (10), B `imm` (7), N suits (9); jumping T is N; falls through unchanged
 unfoldable pub rule_ifint : Rows → List Label → ℕ → ℕ → Num → Judged → Env → Line
-rule_ifint ρ L l v n (No a) Γ = refuse a Γ
-rule_ifint ρ L l v n (Ok Cint e) Γ = refuse 6 Γ
-rule_ifint ρ L l v n (Ok (Value r) e) Γ =
+rule_ifint ρ L l v n (Err a) Γ = refuse a Γ
+rule_ifint ρ L l v n (Ok (Cint, e)) Γ = refuse 6 Γ
+rule_ifint ρ L l v n (Ok (Value r, e)) Γ =
     need (refuse 10 Γ) (is_zero e.offset)
     (need (refuse 7 Γ) (is_imm e.boxed)
     (need (refuse 9 Γ) (suits (psi_of ρ r) n)
@@ -87,8 +88,8 @@ rule_ifint ρ L l v n (Ok (Value r) e) Γ =
 
 -- `return`: kind and row of `ret` (6), I 0 (10)
 unfoldable pub rule_return : Kind → Judged → Env → Line
-rule_return ret (No n) Γ = refuse n Γ
-rule_return ret (Ok k e) Γ = need (refuse 6 Γ) (same_kind k ret) (need (refuse 10 Γ) (is_zero e.offset) (goes false Γ))
+rule_return ret (Err n) Γ = refuse n Γ
+rule_return ret (Ok (k, e)) Γ = need (refuse 6 Γ) (same_kind k ret) (need (refuse 10 Γ) (is_zero e.offset) (goes false Γ))
 
 -- what falls into a label must be covered (11); after a label its own environment holds
 unfoldable pub rule_label : Prog → ℕ → Bool → Env → Line

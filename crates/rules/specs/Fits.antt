@@ -1,6 +1,7 @@
 -- When a datum fits an entry of a row, when a store fits its rows, and the environment of a line. Assumes nothing.
 use Rattle.std.specs.Prelude.{◌&&◌, ◌∷◌}
-use Rattle.rules.specs.Prelude.{ℕ, zero, suc, Bool, true, false, List, [], ltb, eqb, pos, length, Num, Boxed, Offset, Tag, Entry, Env, Kind, Cint, Value, Int, Imm, Place, Given, Stuck, Has}
+use Rattle.rules.specs.Machine.{Given}
+use Rattle.rules.specs.Prelude.{ℕ, zero, suc, Bool, true, false, List, [], ltb, eqb, pos, length, Num, Boxed, Offset, Tag, Entry, Env, Kind, Cint, Value, Int, Imm, Place, None, Some}
 use Rattle.rules.specs.Prelude.B
 use Rattle.rules.specs.Prelude.I
 use Rattle.rules.specs.Prelude.G
@@ -41,13 +42,13 @@ fits_place s r e b o =
 
 -- a C int fits an int entry if T is it or `any`
 unfoldable pub fits : Rows → Store → Kind → Entry → Given → Bool
-fits ρ s k e Stuck = false
-fits ρ s Cint e (Has (Int n)) = tag_is e.tag n
-fits ρ s Cint e (Has (Imm n)) = false
-fits ρ s Cint e (Has (Place b o)) = false
-fits ρ s (Value r) e (Has (Int n)) = false
-fits ρ s (Value r) e (Has (Imm n)) = fits_imm ρ r e n
-fits ρ s (Value r) e (Has (Place b o)) = fits_place s r e b o
+fits ρ s k e None = false
+fits ρ s Cint e (Some (Int n)) = tag_is e.tag n
+fits ρ s Cint e (Some (Imm n)) = false
+fits ρ s Cint e (Some (Place b o)) = false
+fits ρ s (Value r) e (Some (Int n)) = false
+fits ρ s (Value r) e (Some (Imm n)) = fits_imm ρ r e n
+fits ρ s (Value r) e (Some (Place b o)) = fits_place s r e b o
 
 -- ---- a store fits: each block has a tag of its row (25) and as many cells as that product has fields (25), and each cell fits `any,0,any` (26)
 

@@ -1,14 +1,18 @@
 -- The machine: a datum, a block, what an expression gives, what a line does, steps and runs. Assumes nothing.
 pub mod Tables
 use Rattle.std.specs.Prelude.{◌+◌, ◌&&◌, ◌+ℤ◌}
-use Rattle.rules.specs.Prelude.{ℕ, zero, suc, Bool, true, false, not, List, [], ltb, eqb, ℤ, pos, negsuc, length, get_or, set, Num, Op, Datum, Int, Imm, Place, Given, Stuck, Has, Act, Stepped}
+use Rattle.rules.specs.Prelude.{ℕ, zero, suc, Bool, true, false, not, List, [], ltb, eqb, ℤ, pos, negsuc, length, get_or, set, Num, Op, Datum, Int, Imm, Place, None, Some, Act, Stepped, Option}
 use Rattle.rules.specs.Prelude.D
 use Rattle.rules.specs.Prelude.S
 use Rattle.rules.specs.When.{need, One}
 use Rattle.rules.specs.Numbers.{zero_n, eq_z, same_num, arith_of}
 use Rattle.rules.specs.Program.{Rows, row_there, label_there, label_at, Expr, bad, lit, var, arith, val, int, fetch, step, Stmt, bad_s, set_s, put_s, goto_s, if_s, ifimm_s, iftag_s, ifint_s, return_s, label_s, Prog}
 
--- a block has a tag and cells; its row is kept beside it and no step reads it. A cell or a variable of a mangled table may hold nothing (Stuck)
+-- what an expression gives, and what a cell or a variable holds: a datum, or nothing
+abbrev pub Given : Type 0
+Given = Option Datum
+
+-- a block has a tag and cells; its row is kept beside it and no step reads it. A cell or a variable of a mangled table may hold nothing (None)
 pub record Block : Type 0 where
   pub row : ℕ
   pub tag : ℕ
@@ -39,58 +43,58 @@ abbrev pub inside : Store → ℕ → ℕ → Bool
 inside s b o = ltb b (length s) && ltb o (cells_in s b)
 
 unfoldable pub cell_at : Store → ℕ → ℕ → Given
-cell_at s b o = get_or (block_at s b).cells o Stuck
+cell_at s b o = get_or (block_at s b).cells o None
 
 -- ---- the kinds of data that a form needs; with any other, and with none, it is stuck
 
 abbrev pub need_int : {A : Type 0} → A → Given → (Num → A) → A
-need_int stuck Stuck go = stuck
-need_int stuck (Has (Int n)) go = go n
-need_int stuck (Has (Imm n)) go = stuck
-need_int stuck (Has (Place b o)) go = stuck
+need_int stuck None go = stuck
+need_int stuck (Some (Int n)) go = go n
+need_int stuck (Some (Imm n)) go = stuck
+need_int stuck (Some (Place b o)) go = stuck
 
 abbrev pub need_imm : {A : Type 0} → A → Given → (Num → A) → A
-need_imm stuck Stuck go = stuck
-need_imm stuck (Has (Int n)) go = stuck
-need_imm stuck (Has (Imm n)) go = go n
-need_imm stuck (Has (Place b o)) go = stuck
+need_imm stuck None go = stuck
+need_imm stuck (Some (Int n)) go = stuck
+need_imm stuck (Some (Imm n)) go = go n
+need_imm stuck (Some (Place b o)) go = stuck
 
 abbrev pub need_place : {A : Type 0} → A → Given → (ℕ → ℕ → A) → A
-need_place stuck Stuck go = stuck
-need_place stuck (Has (Int n)) go = stuck
-need_place stuck (Has (Imm n)) go = stuck
-need_place stuck (Has (Place b o)) go = go b o
+need_place stuck None go = stuck
+need_place stuck (Some (Int n)) go = stuck
+need_place stuck (Some (Imm n)) go = stuck
+need_place stuck (Some (Place b o)) go = go b o
 
 -- ---- expressions. Arithmetic, `val` and amounts need a C int; `int` an immediate; `fetch` and `step` a place
 
 unfoldable pub ev_var : List Given → ℕ → Given
-ev_var δ v = get_or δ v Stuck
+ev_var δ v = get_or δ v None
 
 unfoldable pub ev_arith : Op → Given → Given → Given
-ev_arith o x y = need_int Stuck x (λ a. need_int Stuck y (λ c. Has (Int (arith_of o a c))))
+ev_arith o x y = need_int None x (λ a. need_int None y (λ c. Some (Int (arith_of o a c))))
 
 -- `val` makes an immediate, `int` the reverse; `val` of a row that is absent is stuck
 unfoldable pub ev_val : Rows → ℕ → Given → Given
-ev_val ρ r x = need_int Stuck x (λ n. need Stuck (row_there ρ r) (Has (Imm n)))
+ev_val ρ r x = need_int None x (λ n. need None (row_there ρ r) (Some (Imm n)))
 
 unfoldable pub ev_int : Given → Given
-ev_int x = need_imm Stuck x (λ n. Has (Int n))
+ev_int x = need_imm None x (λ n. Some (Int n))
 
 -- `fetch` reads the cell at a place
 unfoldable pub ev_fetch : Store → Given → Given
-ev_fetch s x = need_place Stuck x (λ b o. need Stuck (inside s b o) (cell_at s b o))
+ev_fetch s x = need_place None x (λ b o. need None (inside s b o) (cell_at s b o))
 
 -- `step` moves the offset by the amount, over whole numbers
 unfoldable pub moved : Store → ℕ → ℤ → Given
-moved s b (pos o) = need Stuck (inside s b o) (Has (Place b o))
-moved s b (negsuc o) = Stuck
+moved s b (pos o) = need None (inside s b o) (Some (Place b o))
+moved s b (negsuc o) = None
 
 unfoldable pub ev_step : Store → Given → Given → Given
-ev_step s x y = need_place Stuck x (λ b o. need_int Stuck y (λ m. moved s b (pos o +ℤ m.n)))
+ev_step s x y = need_place None x (λ b o. need_int None y (λ m. moved s b (pos o +ℤ m.n)))
 
 unfoldable pub eval : Rows → Store → List Given → Expr → Given
-eval ρ s δ bad = Stuck
-eval ρ s δ (lit n) = Has (Int n)
+eval ρ s δ bad = None
+eval ρ s δ (lit n) = Some (Int n)
 eval ρ s δ (var v) = ev_var δ v
 eval ρ s δ (arith o x y) = ev_arith o (eval ρ s δ x) (eval ρ s δ y)
 eval ρ s δ (val r x) = ev_val ρ r (eval ρ s δ x)
@@ -110,15 +114,15 @@ jump_on P l c = need D.Stuck (label_there P l) (jump_if c P l)
 
 -- `set` and `return` take any
 unfoldable pub act_set : List Given → ℕ → Given → Act
-act_set δ v Stuck = D.Stuck
-act_set δ v (Has d) = need D.Stuck (ltb v (length δ)) (D.SetVar v d)
+act_set δ v None = D.Stuck
+act_set δ v (Some d) = need D.Stuck (ltb v (length δ)) (D.SetVar v d)
 
 -- `put` needs a place, moved as by `step`, and what it stores is an immediate or a place
 abbrev pub store_at : ℕ → ℕ → Given → Act
-store_at b o Stuck = D.Stuck
-store_at b o (Has (Int n)) = D.Stuck
-store_at b o (Has (Imm n)) = D.SetCell b o (Imm n)
-store_at b o (Has (Place c i)) = D.SetCell b o (Place c i)
+store_at b o None = D.Stuck
+store_at b o (Some (Int n)) = D.Stuck
+store_at b o (Some (Imm n)) = D.SetCell b o (Imm n)
+store_at b o (Some (Place c i)) = D.SetCell b o (Place c i)
 
 unfoldable pub act_put : Store → Num → Given → Given → Act
 act_put s m x y = need_place D.Stuck x (λ b o. need_place D.Stuck (moved s b (pos o +ℤ m.n)) (λ c i. store_at c i y))
@@ -129,10 +133,10 @@ act_if P l x = need_int D.Stuck x (λ n. jump_on P l (not (same_num n zero_n)))
 
 -- `ifimm` needs an immediate or a place and jumps on an immediate
 unfoldable pub act_ifimm : Prog → ℕ → Given → Act
-act_ifimm P l Stuck = D.Stuck
-act_ifimm P l (Has (Int n)) = D.Stuck
-act_ifimm P l (Has (Imm n)) = jump_on P l true
-act_ifimm P l (Has (Place b o)) = jump_on P l false
+act_ifimm P l None = D.Stuck
+act_ifimm P l (Some (Int n)) = D.Stuck
+act_ifimm P l (Some (Imm n)) = jump_on P l true
+act_ifimm P l (Some (Place b o)) = jump_on P l false
 
 -- `iftag` needs a place at offset 0 and jumps on the tag named
 unfoldable pub act_iftag : Prog → Store → ℕ → Num → Given → Act
@@ -143,8 +147,8 @@ unfoldable pub act_ifint : Prog → ℕ → Num → Given → Act
 act_ifint P l n x = need_imm D.Stuck x (λ m. jump_on P l (same_num m n))
 
 abbrev pub act_return : Given → Act
-act_return Stuck = D.Stuck
-act_return (Has d) = D.Give d
+act_return None = D.Stuck
+act_return (Some d) = D.Give d
 
 unfoldable pub act : Prog → Store → List Given → Stmt → Act
 act P s δ bad_s = D.Stuck
@@ -172,7 +176,7 @@ pub record Machine : Type 0 where
   pub store : Store
 
 unfoldable pub set_cell : Store → ℕ → ℕ → Datum → Store
-set_cell s b o d = set s b (record { row = (block_at s b).row; tag = (block_at s b).tag; cells = set (block_at s b).cells o (Has d) })
+set_cell s b o d = set s b (record { row = (block_at s b).row; tag = (block_at s b).tag; cells = set (block_at s b).cells o (Some d) })
 
 -- one step more, at a line, with variables and a store
 abbrev pub moves : Machine → ℕ → List Given → Store → Machine
@@ -183,13 +187,13 @@ unfoldable pub apply : Act → Machine → Machine
 apply D.Stuck m = m
 apply D.Fall m = moves m (m.at + 1) m.vals m.store
 apply (D.Jump i) m = moves m i m.vals m.store
-apply (D.SetVar v d) m = moves m (m.at + 1) (set m.vals v (Has d)) m.store
+apply (D.SetVar v d) m = moves m (m.at + 1) (set m.vals v (Some d)) m.store
 apply (D.SetCell b o d) m = moves m (m.at + 1) m.vals (set_cell m.store b o d)
-apply (D.Give d) m = record { at = m.at; steps = m.steps + 1; value = Has d; vals = m.vals; store = m.store }
+apply (D.Give d) m = record { at = m.at; steps = m.steps + 1; value = Some d; vals = m.vals; store = m.store }
 
 abbrev pub step_from : Prog → Machine → Given → Machine
-step_from P m Stuck = apply (decide P m.store m.vals m.at) m
-step_from P m (Has d) = m
+step_from P m None = apply (decide P m.store m.vals m.at) m
+step_from P m (Some d) = m
 
 -- a returned machine stays as it is and counts no more
 unfoldable pub step_of : Prog → Machine → Machine
@@ -209,8 +213,8 @@ says_act (D.SetCell b o d) = S.Moved
 says_act (D.Give d) = S.Moved
 
 abbrev pub says_from : Prog → Machine → Given → Stepped
-says_from P m Stuck = says_act (decide P m.store m.vals m.at)
-says_from P m (Has d) = S.Returned
+says_from P m None = says_act (decide P m.store m.vals m.at)
+says_from P m (Some d) = S.Returned
 
 unfoldable pub says : Prog → Machine → Stepped
 says P m = says_from P m m.value

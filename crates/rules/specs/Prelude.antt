@@ -1,5 +1,5 @@
 -- What the other files import: the library's names under their own names, and the declared types of src with their variants. It defines nothing. Assumes nothing.
-pub use Rattle.std.specs.Prelude.{ℕ, zero, suc, ◌+◌, ◌-◌, ◌*◌, ◌/◌, ◌%◌, ◌<◌, ◌≤◌, max, Bool, true, false, not, ◌&&◌, ◌||◌, List, [], ◌∷◌, ◌++◌, map, ◌≡◌, refl, ◌↔◌, ltb, leb, eqb, ℤ, pos, negsuc, ◌+ℤ◌, ◌-ℤ◌, ◌*ℤ◌, length, get_or, set, take, drop, replicate}
+pub use Rattle.std.specs.Prelude.{ℕ, zero, suc, ◌+◌, ◌-◌, ◌*◌, ◌/◌, ◌%◌, ◌<◌, ◌≤◌, max, Bool, true, false, not, ◌&&◌, ◌||◌, List, [], ◌∷◌, ◌++◌, map, ◌≡◌, refl, ◌↔◌, ltb, leb, eqb, ℤ, pos, negsuc, ◌+ℤ◌, ◌-ℤ◌, ◌*ℤ◌, length, get_or, set, take, drop, replicate, Option, None, Some, Result, Ok, Err}
 pub use Rattle.std.proofs.Common.{sym, ap, ap₂, subst, ◌∙◌}
 -- numbers, entries, environments
 pub use Rattle.rules.specs.declared.Num.{Num}
@@ -22,27 +22,13 @@ pub use Rattle.rules.specs.declared.Op.TheVariants as O
 pub use Rattle.rules.specs.declared.Answer.{Answer}
 pub use Rattle.rules.specs.declared.Verdict.{Verdict}
 pub use Rattle.rules.specs.declared.Verdict.TheVariants as C
-pub use Rattle.rules.specs.declared.Judged.{Judged}
-pub use Rattle.rules.specs.declared.Judged.TheVariants.{No, Ok}
-pub use Rattle.rules.specs.declared.Addr.{Addr}
-pub use Rattle.rules.specs.declared.Addr.TheVariants as A
 pub use Rattle.rules.specs.declared.Line.{Line}
--- readers
-pub use Rattle.rules.specs.declared.Reading.{Reading}
-pub use Rattle.rules.specs.declared.Reading.TheVariants.{Got, Bad}
-pub use Rattle.rules.specs.declared.Next.{Next}
-pub use Rattle.rules.specs.declared.Next.TheVariants as N
-pub use Rattle.rules.specs.declared.Head.{Head}
-pub use Rattle.rules.specs.declared.Head.TheVariants.{Node, Not}
-pub use Rattle.rules.specs.declared.Filling.{Filling}
-pub use Rattle.rules.specs.declared.Filling.TheVariants as F
+-- how much was read
 pub use Rattle.rules.specs.declared.Count.{Count}
 pub use Rattle.rules.specs.declared.StoreCount.{StoreCount}
 -- the machine
 pub use Rattle.rules.specs.declared.Datum.{Datum}
 pub use Rattle.rules.specs.declared.Datum.TheVariants.{Int, Imm, Place}
-pub use Rattle.rules.specs.declared.Given.{Given}
-pub use Rattle.rules.specs.declared.Given.TheVariants.{Stuck, Has}
 pub use Rattle.rules.specs.declared.Act.{Act}
 pub use Rattle.rules.specs.declared.Act.TheVariants as D
 pub use Rattle.rules.specs.declared.Stepped.{Stepped}

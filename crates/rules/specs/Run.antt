@@ -1,6 +1,7 @@
 -- Two programs: the answer to glue text and store text joined, and what the programs print. Assumes nothing.
 use Rattle.std.specs.Prelude.{◌+◌, ◌/◌, ◌%◌, ◌∷◌, ◌++◌}
-use Rattle.rules.specs.Prelude.{ℕ, zero, suc, Bool, true, false, List, [], ltb, eqb, ℤ, pos, negsuc, get_or, take, drop, Answer, Int, Imm, Place, Given, Stuck, Has, State}
+use Rattle.rules.specs.Machine.{Given}
+use Rattle.rules.specs.Prelude.{ℕ, zero, suc, Bool, true, false, List, [], ltb, eqb, ℤ, pos, negsuc, get_or, take, drop, Answer, Int, Imm, Place, None, Some, State}
 use Rattle.rules.specs.Prelude.Q
 use Rattle.rules.specs.When.{One, when}
 use Rattle.rules.specs.Bytes.{bytes}
@@ -25,7 +26,7 @@ glue_of s = take (glue_bytes true s) s
 unfoldable pub store_text_of : List ℕ → List ℕ
 store_text_of s = drop (glue_bytes true s) s
 
--- what the program prints: answer and line, state, steps, value (none: Stuck)
+-- what the program prints: answer and line, state, steps, value (none: None)
 pub record Result : Type 0 where
   pub answer : Answer
   pub state : State
@@ -33,15 +34,15 @@ pub record Result : Type 0 where
   pub value : Given
 
 abbrev pub refused : Answer → Result
-refused a = record { answer = a; state = Q.Refused; steps = 0; value = Stuck }
+refused a = record { answer = a; state = Q.Refused; steps = 0; value = None }
 
 -- a machine that stands before the first line
 abbrev pub start : StoreTables → MTables
 start o = record { size = o.size; heads = o.heads; cells = o.cells; vals = o.vals; at = 0; steps = 0; value = 0 }
 
 abbrev pub state_of : Given → State
-state_of Stuck = Q.Running
-state_of (Has d) = Q.Done
+state_of None = Q.Running
+state_of (Some d) = Q.Done
 
 abbrev pub result_of : MTables → Result
 result_of m = record { answer = accepted; state = state_of (datum_code m.value); steps = m.steps; value = datum_code m.value }
@@ -78,10 +79,10 @@ signed (negsuc n) = bytes "-" ++ decimal (n + 1)
 
 -- `cN`, `iN` or `bK` as in `arg`, or `none`
 unfoldable pub value_text : Given → List ℕ
-value_text Stuck = bytes "none"
-value_text (Has (Int n)) = bytes "c" ++ signed n.n
-value_text (Has (Imm n)) = bytes "i" ++ signed n.n
-value_text (Has (Place b o)) = bytes "b" ++ decimal b
+value_text None = bytes "none"
+value_text (Some (Int n)) = bytes "c" ++ signed n.n
+value_text (Some (Imm n)) = bytes "i" ++ signed n.n
+value_text (Some (Place b o)) = bytes "b" ++ decimal b
 
 abbrev pub state_text : State → List ℕ
 state_text Q.Refused = bytes "none"

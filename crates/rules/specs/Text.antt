@@ -4,8 +4,9 @@ pub mod Shape
 pub mod Layout
 pub mod Fill
 use Rattle.std.specs.Prelude.{◌+◌}
-use Rattle.rules.specs.Prelude.{ℕ, zero, suc, true, false, List, ltb, eqb, length, Answer, Reading, Got, Bad, Next, Count}
-use Rattle.rules.specs.Prelude.N
+use Rattle.rules.specs.Text.Words.{Reading}
+use Rattle.rules.specs.Text.Words.{Next}
+use Rattle.rules.specs.Prelude.{ℕ, zero, suc, true, false, List, ltb, eqb, length, Answer, Ok, Err, Count}
 use Rattle.rules.specs.When.{One, when}
 use Rattle.rules.specs.Limits.{limits}
 use Rattle.rules.specs.Answers.{answer, accepted}
@@ -24,15 +25,15 @@ limited k n (filled false c t) = lined 3 n c t
 
 -- the shape ends at n, where a line feed must stand; then the limits
 abbrev pub shaped : List ℕ → ℕ → ℕ → Count → Tables → Next → Lined
-shaped s k at c t (N.Bad p) = lined 2 p c t
-shaped s k at c t (N.At n) =
+shaped s k at c t (Err p) = lined 2 p c t
+shaped s k at c t (Ok n) =
     when (eqb (byte_at s n) 10)
     (λ _. limited k (n + 1) (fill_line s (key_of k) at c t))
     (λ _. lined 2 n c t)
 
 abbrev pub keyed : List ℕ → ℕ → Count → Tables → Reading → Lined
-keyed s start c t (Bad p) = lined 2 p c t
-keyed s start c t (Got k n) =
+keyed s start c t (Err p) = lined 2 p c t
+keyed s start c t (Ok (k, n)) =
     when (in_order c.part k)
     (λ _. shaped s k n c t (line_shape s c.vars (key_of k) n))
     (λ _. lined 2 start c t)

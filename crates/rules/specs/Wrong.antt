@@ -1,7 +1,8 @@
 -- What it means that a machine has not gone wrong. Assumes nothing.
 use Rattle.std.specs.Prelude.{T}
 use Rattle.std.specs.Prelude.{◌<◌, ◌≡◌}
-use Rattle.rules.specs.Prelude.{ℕ, length, get_or, Given, Stuck, Has}
+use Rattle.rules.specs.Machine.{Given}
+use Rattle.rules.specs.Prelude.{ℕ, length, get_or, None, Some}
 use Rattle.rules.specs.Prelude.S
 use Rattle.rules.specs.Program.{Prog, kind_at, loosest, no_entry}
 use Rattle.rules.specs.Machine.{Store, row_in, tag_in, cells_in, Machine, says}
@@ -9,13 +10,13 @@ use Rattle.rules.specs.Fits.{Entered, unreached, entered, env_at, fits}
 
 -- it has returned a value that fits `ret` as `any,0,any`, or it is able to step
 abbrev pub GoesOn : Prog → Machine → Given → Type 0
-GoesOn P m Stuck = says P m ≡ S.Moved
-GoesOn P m (Has d) = T (fits P.rows m.store P.ret loosest (Has d))
+GoesOn P m None = says P m ≡ S.Moved
+GoesOn P m (Some d) = T (fits P.rows m.store P.ret loosest (Some d))
 
 -- its variables fit the environment of its line
 abbrev pub VariablesFit : Prog → Machine → Entered → Type 0
 VariablesFit P m unreached = ⊥
-VariablesFit P m (entered Γ) = (v : ℕ) → v < length P.vars → T (fits P.rows m.store (kind_at P.vars v) (get_or Γ.entries v no_entry) (get_or m.vals v Stuck))
+VariablesFit P m (entered Γ) = (v : ℕ) → v < length P.vars → T (fits P.rows m.store (kind_at P.vars v) (get_or Γ.entries v no_entry) (get_or m.vals v None))
 
 -- every block of the store z has the tag, length and row that it has in s
 pub record SameBlocks (s z : Store) : Type 0 where

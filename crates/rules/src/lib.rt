@@ -201,26 +201,14 @@ pub enum Verdict {
     StoreArgument(usize),
 }
 
-// What an expression is judged as: an answer's number, or a kind with an entry.
-#[derive(Clone, Copy)]
-pub enum Judged {
-    No(u32),
-    Ok(Kind, Entry),
-}
+// What an expression is judged as: a kind with an entry, or an answer's number.
+pub type Judged = Result<(Kind, Entry), u32>;
 
 // A block address: a tag and an offset, or an answer's number.
-#[derive(Clone, Copy)]
-pub enum Addr {
-    Bad(u32),
-    At(usize, usize),
-}
+pub type Addr = Result<(usize, usize), u32>;
 
-// What an expression gives in the machine.
-#[derive(Clone, Copy)]
-pub enum Given {
-    Stuck,
-    Has(Datum),
-}
+// What an expression gives in the machine; nothing where it is stuck.
+pub type Given = Option<Datum>;
 
 // What a line does to the environment: answer 0 goes on.
 #[derive(Clone, Copy)]
@@ -233,32 +221,16 @@ pub struct Line {
 // ---- readers: each is a function of the text and a place in it
 
 // What was read as it stands in a table (a number as its 32 bits, a key or an operator as its number, a datum as its code) and the next byte; or the first wrong byte.
-#[derive(Clone, Copy)]
-pub enum Reading {
-    Got(u64, usize),
-    Bad(usize),
-}
+pub type Reading = Result<(u64, usize), usize>;
 
 // The byte after what was read, or the first wrong byte.
-#[derive(Clone, Copy)]
-pub enum Next {
-    At(usize),
-    Bad(usize),
-}
+pub type Next = Result<usize, usize>;
 
 // The first word of an expression: operation, argument, next byte; or the first wrong byte.
-#[derive(Clone, Copy)]
-pub enum Head {
-    Node(u32, u32, usize),
-    Not(usize),
-}
+pub type Head = Result<(u32, u32, usize), usize>;
 
 // After an expression was written: the next byte and the next free node; or a limit is passed.
-#[derive(Clone, Copy)]
-pub enum Filling {
-    Got(usize, usize),
-    Limit,
-}
+pub type Filling = Option<(usize, usize)>;
 
 // How much of a glue text was read. Part: 0 nothing, 1 rows may come, 2 variables, 3 the body.
 #[derive(Clone, Copy)]

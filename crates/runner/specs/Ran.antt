@@ -1,6 +1,6 @@
 -- What the running program says of a joined text, as the rules' result. Assumes nothing.
 use Rattle.rules.specs.Prelude.{ℕ}
-use Rattle.rules.specs.declared.Given.{Given}
+use Rattle.rules.specs.Machine.{Given}
 use Rattle.rules.specs.Answers.{accepted, answer_of}
 use Rattle.rules.specs.Run.{Result, state_of}
 use Rattle.runner.specs.declared.Ran.{Ran}

@@ -30,7 +30,7 @@ fn refuse(v: Verdict) -> Ran
         answer: v,
         state: State::Refused,
         steps: 0,
-        value: Given::Stuck,
+        value: None,
     }
 }
 
@@ -38,8 +38,8 @@ fn state_of(value: Given) -> State
     ensures { result ≡ state_of value }
 {
     match value {
-        Given::Stuck => State::Running,
-        Given::Has(_) => State::Done,
+        None => State::Running,
+        Some(_) => State::Done,
     }
 }
 

@@ -2,7 +2,7 @@
 use native.Mathlib.Omega.{arith}
 use Rattle.std.specs.Prelude.{◌+◌, ◌≤◌}
 use Rattle.rules.specs.Prelude.{ℕ, max, List, length}
-use Rattle.rules.specs.declared.Reading.{Reading}
+use Rattle.rules.specs.Text.Words.{Reading}
 use Rattle.rules.specs.Bytes.{bytes}
 use Rattle.rules.specs.Text.Shape.{kind_word, inf_word, psi_at, boxed_at, any_word, or_raised, offset_at, tag_at, key_at}
 use Rattle.text.proofs.Laws.{Reads, right, wrong, plain_reads, number_reads, or_reads}

@@ -5,14 +5,11 @@ use native.Mathlib.Numerals.{sub-one}
 use native.Mathlib.Omega.{arith}
 use lib.ListN.{get_or-eq_default}
 use borrow.Author.Tests.{eq-eqb, ne_eqb, eqb-true}
-use Rattle.std.specs.Prelude.{◌+◌, ◌-◌, ◌<◌, ◌≤◌, ◌||◌, ◌∷◌, ◌≡◌}
+use Rattle.std.specs.Prelude.{◌+◌, ◌-◌, ◌<◌, ◌≤◌, ◌||◌, ◌∷◌, ◌≡◌, Ok, Err}
 use Rattle.rules.specs.Prelude.{ℕ, zero, suc, Bool, true, false, List, [], refl, sym, ◌∙◌, ltb, eqb}
-use Rattle.rules.specs.declared.Reading.{Reading}
-use Rattle.rules.specs.declared.Reading.TheVariants.{Got, Bad}
-use Rattle.rules.specs.declared.Next.{Next}
-use Rattle.rules.specs.declared.Next.TheVariants as N
-use Rattle.rules.specs.declared.Head.{Head}
-use Rattle.rules.specs.declared.Head.TheVariants.{Node, Not}
+use Rattle.rules.specs.Text.Words.{Reading}
+use Rattle.rules.specs.Text.Words.{Next}
+use Rattle.rules.specs.Text.Words.{Head}
 use Rattle.rules.specs.Bytes.{bytes}
 use Rattle.rules.proofs.Laws.Tests.{by_when}
 use Rattle.rules.specs.Text.Words.{byte_at, plain_at, byte_is, arity, head_at}
@@ -22,40 +19,40 @@ use Rattle.text.proofs.Chain.{only, chain, chain_by, chain_none}
 -- ---- one after the other: the code goes on from what came out, the definitions go into it
 
 module _ (go : ℕ → Next) {x : Next} where
-  pub on_at : {n : ℕ} {r : Next} → x ≡ N.At n → r ≡ go n → r ≡ over x go
+  pub on_at : {n : ℕ} {r : Next} → x ≡ Ok n → r ≡ go n → r ≡ over x go
   on_at e f = rw e f
 
-  pub on_bad : {p : ℕ} → x ≡ N.Bad p → N.Bad p ≡ over x go
+  pub on_bad : {p : ℕ} → x ≡ Err p → Err p ≡ over x go
   on_bad e = rw e
 
 module _ (mark go : ℕ → Next) where
   pub next_mark : (x : Next) → over (over x mark) go ≡ over x (λ n. over (mark n) go)
-  next_mark (N.At n) = refl
-  next_mark (N.Bad p) = refl
+  next_mark (Ok n) = refl
+  next_mark (Err p) = refl
 
   pub read_mark : (r : Reading) → over (over (end r) mark) go ≡ after r (λ n. over (mark n) go)
-  read_mark (Got v n) = refl
-  read_mark (Bad p) = refl
+  read_mark (Ok (v, n)) = refl
+  read_mark (Err p) = refl
 
 -- a mark, a word, a mark
 module _ (mark : ℕ → Next) (word : ℕ → Reading) (mark' go : ℕ → Next) where
   marked : (x : Next) → over (over (over x (λ n. end (word n))) mark') go ≡ over x (λ n. after (word n) (λ m. over (mark' m) go))
-  marked (N.At n) = read_mark mark' go (word n)
-  marked (N.Bad p) = refl
+  marked (Ok n) = read_mark mark' go (word n)
+  marked (Err p) = refl
 
   pub next_marks : (x : Next)
       → over (over (over (over x mark) (λ n. end (word n))) mark') go ≡ over x (λ n. over (mark n) (λ m. after (word m) (λ k. over (mark' k) go)))
-  next_marks (N.At n) = marked (mark n)
-  next_marks (N.Bad p) = refl
+  next_marks (Ok n) = marked (mark n)
+  next_marks (Err p) = refl
 
   pub read_marks : (r : Reading)
       → over (over (over (over (end r) mark) (λ n. end (word n))) mark') go ≡ after r (λ n. over (mark n) (λ m. after (word m) (λ k. over (mark' k) go)))
-  read_marks (Got v n) = marked (mark n)
-  read_marks (Bad p) = refl
+  read_marks (Ok (v, n)) = marked (mark n)
+  read_marks (Err p) = refl
 
 -- a space, where the byte at n was read as b
 module _ (s : List ℕ) (go : ℕ → Next) (n : ℕ) {b : ℕ} (e : b ≡ byte_at s n) where
-  no_space : (b ≡ 32 → ⊥) → space s go n ≡ N.Bad n
+  no_space : (b ≡ 32 → ⊥) → space s go n ≡ Err n
   unfolding byte_is
   no_space h = rw (← e, ne_eqb b 32)
 
@@ -65,7 +62,7 @@ module _ (s : List ℕ) (go : ℕ → Next) (n : ℕ) {b : ℕ} (e : b ≡ byte_
 
 -- ---- expressions: a turn reads the head h, and n more are still to come
 
-pub no_words : (s : List ℕ) (need at left : ℕ) → left ≤ 0 → exprs_shape s left need at ≡ N.Bad at
+pub no_words : (s : List ℕ) (need at left : ℕ) → left ≤ 0 → exprs_shape s left need at ≡ Err at
 unfolding exprs_shape
 no_words s need at left h = let e : left ≡ 0 = omega arith in rw e
 
@@ -75,18 +72,18 @@ turn s need at zero p e = absurd (lt_irrefl 0 p)
 turn s need at (suc left) p e = rw (e, sub-one (suc left))
 
 module _ (s : List ℕ) (need at left : ℕ) (p : 0 < left) {h : Head} (e : h ≡ head_at s at) where
-  pub word_not : {q : ℕ} → h ≡ Not q → exprs_shape s left need at ≡ N.Bad q
+  pub word_not : {q : ℕ} → h ≡ Err q → exprs_shape s left need at ≡ Err q
   word_not f = turn s need at left p (sym f ∙ e)
 
-  module _ {op a next : ℕ} (f : h ≡ Node op a next) (n : ℕ) (m : n ≡ needed need op) where
-    pub word_ends : n ≡ 0 → exprs_shape s left need at ≡ N.At next
+  module _ {op a next : ℕ} (f : h ≡ Ok (op, a, next)) (n : ℕ) (m : n ≡ needed need op) where
+    pub word_ends : n ≡ 0 → exprs_shape s left need at ≡ Ok next
     word_ends z = turn s need at left p (sym f ∙ e) ∙ rw (← m, eq-eqb n 0)
 
     module _ (z : n ≡ 0 → ⊥) {b : ℕ} (g : b ≡ byte_at s next) where
       word_goes : exprs_shape s left need at ≡ space s (exprs_shape s (left - 1) n) next
       word_goes = turn s need at left p (sym f ∙ e) ∙ rw (← m, ne_eqb n 0)
 
-      pub word_bad : (b ≡ 32 → ⊥) → exprs_shape s left need at ≡ N.Bad next
+      pub word_bad : (b ≡ 32 → ⊥) → exprs_shape s left need at ≡ Err next
       word_bad k = word_goes ∙ no_space s (exprs_shape s (left - 1) n) next g k
 
       pub word_on : b ≡ 32 → exprs_shape s left need at ≡ exprs_shape s (left - 1) n (next + 1)
@@ -99,7 +96,7 @@ arity_most op =
 
 -- ---- field rows: a turn reads the row r
 
-pub no_fields : (s : List ℕ) (at left : ℕ) → left ≤ 0 → fields_shape s left at ≡ N.Bad at
+pub no_fields : (s : List ℕ) (at left : ℕ) → left ≤ 0 → fields_shape s left at ≡ Err at
 unfolding fields_shape
 no_fields s at left h = let e : left ≡ 0 = omega arith in rw e
 
@@ -109,11 +106,11 @@ field s at zero p e = absurd (lt_irrefl 0 p)
 field s at (suc left) p e = rw (e, sub-one (suc left))
 
 module _ (s : List ℕ) (at left : ℕ) (p : 0 < left) {r : Reading} (e : r ≡ plain_at s at) where
-  pub field_not : {q : ℕ} → r ≡ Bad q → fields_shape s left at ≡ N.Bad q
+  pub field_not : {q : ℕ} → r ≡ Err q → fields_shape s left at ≡ Err q
   field_not f = field s at left p (sym f ∙ e)
 
-  module _ {v n : ℕ} (f : r ≡ Got v n) {b : ℕ} (g : b ≡ byte_at s n) {t : Bool} (k : t ≡ (eqb b 44 || eqb b 124)) where
-    pub field_ends : t ≡ false → fields_shape s left at ≡ N.At n
+  module _ {v n : ℕ} (f : r ≡ Ok (v, n)) {b : ℕ} (g : b ≡ byte_at s n) {t : Bool} (k : t ≡ (eqb b 44 || eqb b 124)) where
+    pub field_ends : t ≡ false → fields_shape s left at ≡ Ok n
     field_ends h = field s at left p (sym f ∙ e) ∙ rw (← g, ← k, h)
 
     pub field_on : t ≡ true → fields_shape s left at ≡ fields_shape s (left - 1) (n + 1)
@@ -130,7 +127,7 @@ between_byte b = go (eqb b 44) (eqb b 124) refl refl
 
 -- ---- the entries of a label: a turn passes one, and then `more` are still to come
 
-pub no_entries : (s : List ℕ) (at more : ℕ) → more ≤ 0 → label_shape s more at ≡ N.At at
+pub no_entries : (s : List ℕ) (at more : ℕ) → more ≤ 0 → label_shape s more at ≡ Ok at
 unfolding label_shape
 no_entries s at more h = let e : more ≡ 0 = omega arith in rw e
 
@@ -145,18 +142,18 @@ another s rest n zero h = absurd (h refl)
 another s rest n (suc more) h = refl
 
 module _ (s : List ℕ) (at more : ℕ) (p : 0 < more) {x : Next} (e : x ≡ entry_shape s at) where
-  pub entry_not : {q : ℕ} → x ≡ N.Bad q → label_shape s more at ≡ N.Bad q
+  pub entry_not : {q : ℕ} → x ≡ Err q → label_shape s more at ≡ Err q
   entry_not f = entry s at more p (sym f ∙ e)
 
-  module _ {n : ℕ} (f : x ≡ N.At n) where
-    pub entry_last : more - 1 ≡ 0 → label_shape s more at ≡ N.At n
+  module _ {n : ℕ} (f : x ≡ Ok n) where
+    pub entry_last : more - 1 ≡ 0 → label_shape s more at ≡ Ok n
     entry_last z = entry s at more p (sym f ∙ e) ∙ rw z
 
     module _ (z : more - 1 ≡ 0 → ⊥) {b : ℕ} (g : b ≡ byte_at s n) where
       entry_goes : label_shape s more at ≡ space s (label_shape s (more - 1)) n
       entry_goes = entry s at more p (sym f ∙ e) ∙ another s (label_shape s (more - 1)) n (more - 1) z
 
-      pub entry_bad : (b ≡ 32 → ⊥) → label_shape s more at ≡ N.Bad n
+      pub entry_bad : (b ≡ 32 → ⊥) → label_shape s more at ≡ Err n
       entry_bad k = entry_goes ∙ no_space s (label_shape s (more - 1)) n g k
 
       pub entry_on : b ≡ 32 → label_shape s more at ≡ label_shape s (more - 1) (n + 1)
@@ -169,11 +166,11 @@ keys = (bytes "ret=", 1) ∷ (bytes "type=", 2) ∷ (bytes "param=", 3) ∷ (byt
 
 -- only the keys that begin with the byte that stands there
 module _ (s : List ℕ) (at b : ℕ) (e : b ≡ byte_at s at) where
-  pub key_by : key_at s at ≡ chain s at (only b keys) (Bad at)
+  pub key_by : key_at s at ≡ chain s at (only b keys) (Err at)
   unfolding key_at
   key_by = chain_by s at keys e
 
-  pub key_none : (b ≡ 103 → ⊥) → (b ≡ 105 → ⊥) → (b ≡ 108 → ⊥) → (b ≡ 112 → ⊥) → (b ≡ 114 → ⊥) → (b ≡ 115 → ⊥) → (b ≡ 116 → ⊥) → key_at s at ≡ Bad at
+  pub key_none : (b ≡ 103 → ⊥) → (b ≡ 105 → ⊥) → (b ≡ 108 → ⊥) → (b ≡ 112 → ⊥) → (b ≡ 114 → ⊥) → (b ≡ 115 → ⊥) → (b ≡ 116 → ⊥) → key_at s at ≡ Err at
   key_none ng ni nl np nr ns nt =
       let i = ne_eqb b 105 ni in
       let l = ne_eqb b 108 nl in

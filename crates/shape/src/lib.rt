@@ -15,8 +15,8 @@ fn ended(r: Reading) -> Next
     ensures { result ≡ shapes.end r }
 {
     match r {
-        Reading::Got(_, n) => Next::At(n),
-        Reading::Bad(p) => Next::Bad(p),
+        Ok((_, n)) => Ok(n),
+        Err(p) => Err(p),
     }
 }
 
@@ -25,8 +25,8 @@ fn mark_on(s: &[u8], x: Next, b: u8) -> Next
     ensures { result ≡ shapes.over x (λ n. words.byte_is s.now n b) }
 {
     match x {
-        Next::At(n) => byte_is(s, n, b),
-        Next::Bad(p) => Next::Bad(p),
+        Ok(n) => byte_is(s, n, b),
+        Err(p) => Err(p),
     }
 }
 
@@ -44,22 +44,22 @@ fn expr_shape(s: &[u8], at: usize) -> Next
         left -= 1;
         let h = head_at(s, i);
         match h {
-            Head::Not(p) => {
-                return Next::Bad(p);
+            Err(p) => {
+                return Err(p);
             }
-            Head::Node(op, _, n) => {
+            Ok((op, _, n)) => {
                 need = need - 1 + arity(op);
                 if need == 0 {
-                    return Next::At(n);
+                    return Ok(n);
                 }
                 if byte_at(s, n) != 32 {
-                    return Next::Bad(n);
+                    return Err(n);
                 }
                 i = n + 1;
             }
         }
     }
-    Next::Bad(i)
+    Err(i)
 }
 
 // An expression after what was passed.
@@ -67,8 +67,8 @@ fn expr_on(s: &[u8], x: Next) -> Next
     ensures { result ≡ shapes.over x (shapes.expr_shape s.now) }
 {
     match x {
-        Next::At(n) => expr_shape(s, n),
-        Next::Bad(p) => Next::Bad(p),
+        Ok(n) => expr_shape(s, n),
+        Err(p) => Err(p),
     }
 }
 
@@ -77,8 +77,8 @@ fn number_on(s: &[u8], x: Next) -> Next
     ensures { result ≡ shapes.over x (λ n. shapes.end (words.number_at s.now n)) }
 {
     match x {
-        Next::At(n) => ended(number_at(s, n)),
-        Next::Bad(p) => Next::Bad(p),
+        Ok(n) => ended(number_at(s, n)),
+        Err(p) => Err(p),
     }
 }
 
@@ -87,8 +87,8 @@ fn var_on(s: &[u8], x: Next) -> Next
     ensures { result ≡ shapes.over x (λ n. shapes.end (words.var_at s.now n)) }
 {
     match x {
-        Next::At(n) => ended(var_at(s, n)),
-        Next::Bad(p) => Next::Bad(p),
+        Ok(n) => ended(var_at(s, n)),
+        Err(p) => Err(p),
     }
 }
 
@@ -99,7 +99,7 @@ fn var_on(s: &[u8], x: Next) -> Next
 pub fn kind_word(s: &[u8], at: usize) -> Reading
     ensures { result ≡ shapes.kind_word s.now at }
 {
-    let r = or_word(s, at, b"int", 0, Reading::Bad(at));
+    let r = or_word(s, at, b"int", 0, Err(at));
     or_word(s, at, b"value ", 1, r)
 }
 
@@ -109,13 +109,13 @@ fn kind_shape(s: &[u8], at: usize) -> Next
 {
     let w = kind_word(s, at);
     match w {
-        Reading::Got(k, n) => {
+        Ok((k, n)) => {
             if k == 0 {
-                return Next::At(n);
+                return Ok(n);
             }
             ended(plain_at(s, n))
         }
-        Reading::Bad(p) => Next::Bad(p),
+        Err(p) => Err(p),
     }
 }
 
@@ -138,10 +138,10 @@ fn or_number(found: Reading, number: Reading, more: u64) -> Reading
     ensures { result ≡ shapes.or_raised more found number }
 {
     match found {
-        Reading::Got(k, n) => Reading::Got(k, n),
-        Reading::Bad(p) => match number {
-            Reading::Got(v, n) => Reading::Got(v + more, n),
-            Reading::Bad(q) => Reading::Bad(larger(p, q)),
+        Ok((k, n)) => Ok((k, n)),
+        Err(p) => match number {
+            Ok((v, n)) => Ok((v + more, n)),
+            Err(q) => Err(larger(p, q)),
         },
     }
 }
@@ -151,7 +151,7 @@ fn or_number(found: Reading, number: Reading, more: u64) -> Reading
 pub fn psi_at(s: &[u8], at: usize) -> Reading
     ensures { result ≡ shapes.psi_at s.now at }
 {
-    let w = or_word(s, at, b"inf", 1, Reading::Bad(at));
+    let w = or_word(s, at, b"inf", 1, Err(at));
     or_number(w, plain_at(s, at), 2)
 }
 
@@ -173,18 +173,18 @@ fn fields_shape(s: &[u8], at: usize) -> Next
         left -= 1;
         let r = plain_at(s, i);
         match r {
-            Reading::Bad(q) => {
-                return Next::Bad(q);
+            Err(q) => {
+                return Err(q);
             }
-            Reading::Got(_, n) => {
+            Ok((_, n)) => {
                 if !between(byte_at(s, n)) {
-                    return Next::At(n);
+                    return Ok(n);
                 }
                 i = n + 1;
             }
         }
     }
-    Next::Bad(i)
+    Err(i)
 }
 
 #[tactic(auto, unfolding(rules::specs::Text::Shape::products_shape))]
@@ -192,7 +192,7 @@ fn products_shape(s: &[u8], at: usize) -> Next
     ensures { result ≡ shapes.products_shape s.now at }
 {
     if byte_at(s, at) == 10 {
-        Next::At(at)
+        Ok(at)
     } else {
         fields_shape(s, at)
     }
@@ -203,8 +203,8 @@ fn products_on(s: &[u8], x: Next) -> Next
     ensures { result ≡ shapes.over x (shapes.products_shape s.now) }
 {
     match x {
-        Next::At(n) => products_shape(s, n),
-        Next::Bad(p) => Next::Bad(p),
+        Ok(n) => products_shape(s, n),
+        Err(p) => Err(p),
     }
 }
 
@@ -220,7 +220,7 @@ fn type_shape(s: &[u8], at: usize) -> Next
 pub fn boxed_at(s: &[u8], at: usize) -> Reading
     ensures { result ≡ shapes.boxed_at s.now at }
 {
-    let r = or_word(s, at, b"any", 0, Reading::Bad(at));
+    let r = or_word(s, at, b"any", 0, Err(at));
     let r = or_word(s, at, b"box", 1, r);
     or_word(s, at, b"imm", 2, r)
 }
@@ -230,7 +230,7 @@ pub fn boxed_at(s: &[u8], at: usize) -> Reading
 pub fn offset_at(s: &[u8], at: usize) -> Reading
     ensures { result ≡ shapes.offset_at s.now at }
 {
-    let w = or_word(s, at, b"any", 0, Reading::Bad(at));
+    let w = or_word(s, at, b"any", 0, Err(at));
     or_number(w, plain_at(s, at), 1)
 }
 
@@ -239,7 +239,7 @@ pub fn offset_at(s: &[u8], at: usize) -> Reading
 pub fn tag_at(s: &[u8], at: usize) -> Reading
     ensures { result ≡ shapes.tag_at s.now at }
 {
-    let w = or_word(s, at, b"any", 0, Reading::Bad(at));
+    let w = or_word(s, at, b"any", 0, Err(at));
     or_number(w, number_at(s, at), 1)
 }
 
@@ -248,8 +248,8 @@ fn offset_on(s: &[u8], x: Next) -> Next
     ensures { result ≡ shapes.over x (λ n. shapes.end (shapes.offset_at s.now n)) }
 {
     match x {
-        Next::At(n) => ended(offset_at(s, n)),
-        Next::Bad(p) => Next::Bad(p),
+        Ok(n) => ended(offset_at(s, n)),
+        Err(p) => Err(p),
     }
 }
 
@@ -258,8 +258,8 @@ fn tag_on(s: &[u8], x: Next) -> Next
     ensures { result ≡ shapes.over x (λ n. shapes.end (shapes.tag_at s.now n)) }
 {
     match x {
-        Next::At(n) => ended(tag_at(s, n)),
-        Next::Bad(p) => Next::Bad(p),
+        Ok(n) => ended(tag_at(s, n)),
+        Err(p) => Err(p),
     }
 }
 
@@ -282,21 +282,21 @@ fn label_shape(s: &[u8], vars: usize, at: usize) -> Next
         more -= 1;
         let e = entry_shape(s, i);
         match e {
-            Next::Bad(p) => {
-                return Next::Bad(p);
+            Err(p) => {
+                return Err(p);
             }
-            Next::At(n) => {
+            Ok(n) => {
                 if more == 0 {
-                    return Next::At(n);
+                    return Ok(n);
                 }
                 if byte_at(s, n) != 32 {
-                    return Next::Bad(n);
+                    return Err(n);
                 }
                 i = n + 1;
             }
         }
     }
-    Next::At(i)
+    Ok(i)
 }
 
 // A space and an expression after a reading.
@@ -340,28 +340,28 @@ pub fn key_at(s: &[u8], at: usize) -> Reading
 {
     let b = byte_at(s, at);
     match b {
-        103 => or_word(s, at, b"goto=", 7, Reading::Bad(at)),
+        103 => or_word(s, at, b"goto=", 7, Err(at)),
         105 => {
-            let r = or_word(s, at, b"if=", 8, Reading::Bad(at));
+            let r = or_word(s, at, b"if=", 8, Err(at));
             let r = or_word(s, at, b"ifimm=", 9, r);
             let r = or_word(s, at, b"iftag=", 10, r);
             or_word(s, at, b"ifint=", 11, r)
         }
         108 => {
-            let r = or_word(s, at, b"local=", 4, Reading::Bad(at));
+            let r = or_word(s, at, b"local=", 4, Err(at));
             or_word(s, at, b"label=", 13, r)
         }
         112 => {
-            let r = or_word(s, at, b"param=", 3, Reading::Bad(at));
+            let r = or_word(s, at, b"param=", 3, Err(at));
             or_word(s, at, b"put=", 6, r)
         }
         114 => {
-            let r = or_word(s, at, b"ret=", 1, Reading::Bad(at));
+            let r = or_word(s, at, b"ret=", 1, Err(at));
             or_word(s, at, b"return=", 12, r)
         }
-        115 => or_word(s, at, b"set=", 5, Reading::Bad(at)),
-        116 => or_word(s, at, b"type=", 2, Reading::Bad(at)),
-        _ => Reading::Bad(at),
+        115 => or_word(s, at, b"set=", 5, Err(at)),
+        116 => or_word(s, at, b"type=", 2, Err(at)),
+        _ => Err(at),
     }
 }
 
@@ -409,6 +409,6 @@ pub fn line_shape(s: &[u8], vars: usize, k: u64, at: usize) -> Next
         11 => iftag_shape(s, at),
         12 => expr_shape(s, at),
         13 => label_shape(s, vars, at),
-        _ => Next::Bad(at),
+        _ => Err(at),
     }
 }

@@ -1,4 +1,5 @@
 -- What the parts of a viewed store are, as numbers of its tables; what is written past them; and what cleared tables mean. Assumes nothing.
+use Rattle.std.specs.Prelude.{None}
 use native.Mathlib.Omega.{arith as lin}
 use native.Mathlib.Decide.{dec_lt}
 use mathlib.Core.Path.{◌≡◌, refl, ap, ◌∙◌}
@@ -6,7 +7,6 @@ use mathlib.Core.List.{List, []}
 use Prim.Native.Nat.{ℕ, ◌+◌, ◌-◌, ◌*◌, ◌<◌, ◌≤◌}
 use lib.ListN.{length, get_or, replicate, get_or-eq_default}
 use lib.Seq.{set_out}
-use Rattle.rules.specs.declared.Given.TheVariants.{Stuck}
 use Rattle.rules.specs.Limits.{limits}
 use Rattle.rules.specs.Text.Layout.{cell}
 use Rattle.rules.proofs.Laws.Lists.{tab_length, tab_in, up_to_le}
@@ -35,9 +35,9 @@ module _ (s : Store) (b : ℕ) where
   unfolding cells_in
   cells_out h = ap (λ (x : Block). length x.cells) (block_out h)
 
-  pub cell_out : (o : ℕ) → cells_in s b ≤ o → cell_at s b o ≡ Stuck
+  pub cell_out : (o : ℕ) → cells_in s b ≤ o → cell_at s b o ≡ None
   unfolding cells_in cell_at
-  cell_out o h = get_or-eq_default (block_at s b).cells Stuck h
+  cell_out o h = get_or-eq_default (block_at s b).cells None h
 
   -- so a block with cells is there
   block_by : (o : ℕ) → Dec (b < length s) → o < cells_in s b → b < length s
@@ -85,16 +85,16 @@ module _ (Z H C : List ℕ) where
     unfolding cell_at block_from
     cell_in o h =
         let q : b < length (store_of Z H C) = block_with (store_of Z H C) b o h in
-        ap (λ (x : Block). get_or x.cells o Stuck) (block_in q) ∙ tab_in _ (λ i. datum_code (cell C block_width b i)) o Stuck (below (cells_in_lem q) h)
+        ap (λ (x : Block). get_or x.cells o None) (block_in q) ∙ tab_in _ (λ i. datum_code (cell C block_width b i)) o None (below (cells_in_lem q) h)
 
 module _ (n : ℕ) (W : List ℕ) (v : ℕ) where
   pub val_in : v < n → ev_var (vals_of n W) v ≡ datum_code (get_or W v 0)
   unfolding ev_var vals_of
-  val_in h = tab_in n _ v Stuck h
+  val_in h = tab_in n _ v None h
 
-  pub val_out : n ≤ v → ev_var (vals_of n W) v ≡ Stuck
+  pub val_out : n ≤ v → ev_var (vals_of n W) v ≡ None
   unfolding ev_var vals_of
-  val_out h = tab_out n _ v Stuck h
+  val_out h = tab_out n _ v None h
 
 -- ---- writing
 

@@ -107,7 +107,7 @@ pub fn cell_at(
     if o < n {
         entry::datum_of(block_cell(cells, b, o))
     } else {
-        Given::Stuck
+        None
     }
 }
 
@@ -119,7 +119,7 @@ pub fn val_at(n: usize, vals: &[u64; 32], v: usize) -> Given
     if v < n {
         entry::datum_of(table::at64(vals, v))
     } else {
-        Given::Stuck
+        None
     }
 }
 

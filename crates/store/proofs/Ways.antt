@@ -9,7 +9,7 @@ use Rattle.rules.specs.Prelude.{ℕ, zero, suc, max, Bool, true, false, List, []
 use Rattle.rules.specs.declared.Answer.{Answer}
 use Rattle.rules.specs.declared.Kind.{Kind}
 use Rattle.rules.specs.declared.Num.{Num}
-use Rattle.rules.specs.declared.Reading.{Reading}
+use Rattle.rules.specs.Text.Words.{Reading}
 use Rattle.rules.specs.declared.StoreCount.{StoreCount}
 use Rattle.rules.proofs.Laws.Tests.{by_when}
 use Rattle.rules.specs.Answers.{answer, accepted, first}

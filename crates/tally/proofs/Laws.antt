@@ -3,10 +3,9 @@ use Prim.Native.Nat.{zero-le}
 use native.Mathlib.Omega.{arith}
 use lib.Dec.{T}
 use borrow.Author.Tests.{leb-true, ltb-false, eqb-true, eqb-false}
-use Rattle.std.specs.Prelude.{◌+◌, ◌*◌, ◌<◌, ◌≤◌, ◌||◌, ◌≡◌}
+use Rattle.std.specs.Prelude.{◌+◌, ◌*◌, ◌<◌, ◌≤◌, ◌||◌, ◌≡◌, Ok, Err}
 use Rattle.rules.specs.Prelude.{ℕ, zero, suc, List, sym, subst, ltb, leb, eqb, length}
-use Rattle.rules.specs.declared.Reading.{Reading}
-use Rattle.rules.specs.declared.Reading.TheVariants.{Got, Bad}
+use Rattle.rules.specs.Text.Words.{Reading}
 use Rattle.rules.specs.declared.StoreCount.{StoreCount}
 use Rattle.rules.specs.Bytes.{bytes}
 use Rattle.rules.proofs.Laws.Tests.{held, and_both, by_when}
@@ -37,8 +36,8 @@ cell_reads s at =
 
 -- no more cells than bytes
 cells_on_lem : (s : List ℕ) (rest : ℕ → ℕ → Reading) (n most : ℕ) → n < most → ((m : ℕ) → value_of (rest (n + 1) m) ≤ most) → (r : Reading) → value_of (cells_on s rest n r) ≤ most
-cells_on_lem s rest n most h g (Bad p) = zero-le
-cells_on_lem s rest n most h g (Got w m) = by_when (λ (r : Reading). value_of r ≤ most) (eqb (byte_at s m) 32) _ _ (λ _. g (m + 1)) (λ _. omega arith)
+cells_on_lem s rest n most h g (Err p) = zero-le
+cells_on_lem s rest n most h g (Ok (w, m)) = by_when (λ (r : Reading). value_of r ≤ most) (eqb (byte_at s m) 32) _ _ (λ _. g (m + 1)) (λ _. omega arith)
 
 cells_most : (s : List ℕ) (left n at most : ℕ) → n + left ≤ most → value_of (cells_from s left n at) ≤ most
 unfolding cells_from
@@ -46,8 +45,8 @@ cells_most s zero n at most h = zero-le
 cells_most s (suc left) n at most h = cells_on_lem s (cells_from s left) n most (omega arith) (λ m. cells_most s left (n + 1) m most (omega arith)) (cell_word s at)
 
 spaced_most : (s : List ℕ) (go : ℕ → Reading) (most : ℕ) → ((n : ℕ) → value_of (go n) ≤ most) → (r : Reading) → value_of (spaced s go r) ≤ most
-spaced_most s go most g (Bad p) = zero-le
-spaced_most s go most g (Got w n) = by_when (λ (r : Reading). value_of r ≤ most) (eqb (byte_at s n) 32) _ _ (λ _. g (n + 1)) (λ _. zero-le)
+spaced_most s go most g (Err p) = zero-le
+spaced_most s go most g (Ok (w, n)) = by_when (λ (r : Reading). value_of r ≤ most) (eqb (byte_at s n) 32) _ _ (λ _. g (n + 1)) (λ _. zero-le)
 
 pub block_most : (s : List ℕ) (at : ℕ) → value_of (block_words s at) ≤ length s
 unfolding block_words
@@ -102,13 +101,13 @@ module _ (s : List ℕ) (most : ℕ) (c : StoreCount) (h : c.args ≤ most) wher
       by_when (λ (d : StoreCount). d.args ≤ most + 1) (eqb k 2) _ _ (λ _. zero-le) (λ _. omega arith))
 
   shaped_few : (k : ℕ) (r : Reading) → FewLined (most + 1) (store_shaped s c k r)
-  shaped_few k (Bad p) = λ z. absurd (omega arith)
-  shaped_few k (Got v n) =
+  shaped_few k (Err p) = λ z. absurd (omega arith)
+  shaped_few k (Ok (v, n)) =
       by_when (FewLined (most + 1)) (eqb (byte_at s n) 10) _ _ (λ _. limits_few (most + 1) (n + 1) (counted c k v) (args_more k v)) (λ _ z. absurd (omega arith))
 
   keyed_few : (params start : ℕ) (r : Reading) → FewLined (most + 1) (store_keyed s params start c r)
-  keyed_few params start (Bad p) = λ z. absurd (omega arith)
-  keyed_few params start (Got k n) =
+  keyed_few params start (Err p) = λ z. absurd (omega arith)
+  keyed_few params start (Ok (k, n)) =
       by_when (FewLined (most + 1)) (store_order params c k) _ _ (λ _. shaped_few k (store_words s k n)) (λ _ z. absurd (omega arith))
 
   pub line_few : (params at : ℕ) → FewLined (most + 1) (store_line_at s params at c)

@@ -3,10 +3,9 @@ use native.Mathlib.Nat.{lt_irrefl}
 use native.Mathlib.Numerals.{sub-one}
 use native.Mathlib.Omega.{arith}
 use borrow.Author.Tests.{lt-ltb, le-ltb, eq-eqb, ne_eqb}
-use Rattle.std.specs.Prelude.{◌+◌, ◌-◌, ◌<◌, ◌≤◌, ◌≡◌}
+use Rattle.std.specs.Prelude.{◌+◌, ◌-◌, ◌<◌, ◌≤◌, ◌≡◌, Ok, Err}
 use Rattle.rules.specs.Prelude.{ℕ, zero, suc, true, false, List, sym, ◌∙◌, length}
-use Rattle.rules.specs.declared.Reading.{Reading}
-use Rattle.rules.specs.declared.Reading.TheVariants.{Got, Bad}
+use Rattle.rules.specs.Text.Words.{Reading}
 use Rattle.rules.specs.declared.StoreCount.{StoreCount}
 use Rattle.rules.specs.Answers.{answer, accepted}
 use Rattle.rules.specs.Text.Words.{byte_at, plain_at, number_at}
@@ -24,7 +23,7 @@ module _ (s : List ℕ) (at : ℕ) {b : ℕ} (e : b ≡ byte_at s at) where
   unfolding cell_word
   cell_place n h = rw (← e, ne_eqb b 105, eq-eqb b 98)
 
-  pub cell_not : (b ≡ 105 → ⊥) → (b ≡ 98 → ⊥) → cell_word s at ≡ Bad at
+  pub cell_not : (b ≡ 105 → ⊥) → (b ≡ 98 → ⊥) → cell_word s at ≡ Err at
   unfolding cell_word
   cell_not n m = rw (← e, ne_eqb b 105, ne_eqb b 98)
 
@@ -38,7 +37,7 @@ module _ (s : List ℕ) (at : ℕ) {b : ℕ} (e : b ≡ byte_at s at) where
 
 -- ---- cells: a turn reads the cell r, and n were counted before it
 
-pub no_cells : (s : List ℕ) (n at left : ℕ) → left ≤ 0 → cells_from s left n at ≡ Bad at
+pub no_cells : (s : List ℕ) (n at left : ℕ) → left ≤ 0 → cells_from s left n at ≡ Err at
 unfolding cells_from
 no_cells s n at left h = let e : left ≡ 0 = omega arith in rw e
 
@@ -48,11 +47,11 @@ turn s n at zero p e = absurd (lt_irrefl 0 p)
 turn s n at (suc left) p e = rw (e, sub-one (suc left))
 
 module _ (s : List ℕ) (n at left : ℕ) (p : 0 < left) {r : Reading} (e : r ≡ cell_word s at) where
-  pub cells_not : {q : ℕ} → r ≡ Bad q → cells_from s left n at ≡ Bad q
+  pub cells_not : {q : ℕ} → r ≡ Err q → cells_from s left n at ≡ Err q
   cells_not f = turn s n at left p (sym f ∙ e)
 
-  module _ {w m : ℕ} (f : r ≡ Got w m) {b : ℕ} (g : b ≡ byte_at s m) where
-    pub cells_end : (b ≡ 32 → ⊥) → cells_from s left n at ≡ Got (n + 1) m
+  module _ {w m : ℕ} (f : r ≡ Ok (w, m)) {b : ℕ} (g : b ≡ byte_at s m) where
+    pub cells_end : (b ≡ 32 → ⊥) → cells_from s left n at ≡ Ok (n + 1, m)
     cells_end k = turn s n at left p (sym f ∙ e) ∙ rw (← g, ne_eqb b 32)
 
     pub cells_go : b ≡ 32 → cells_from s left n at ≡ cells_from s (left - 1) (n + 1) (m + 1)
@@ -61,11 +60,11 @@ module _ (s : List ℕ) (n at left : ℕ) (p : 0 < left) {r : Reading} (e : r �
 -- ---- what stands after a space
 
 module _ (s : List ℕ) (go : ℕ → Reading) {r : Reading} where
-  pub after_bad : {p : ℕ} → r ≡ Bad p → Bad p ≡ spaced s go r
+  pub after_bad : {p : ℕ} → r ≡ Err p → Err p ≡ spaced s go r
   after_bad e = rw e
 
-  module _ {w n : ℕ} (e : r ≡ Got w n) {b : ℕ} (g : b ≡ byte_at s n) where
-    pub no_space : (b ≡ 32 → ⊥) → Bad n ≡ spaced s go r
+  module _ {w n : ℕ} (e : r ≡ Ok (w, n)) {b : ℕ} (g : b ≡ byte_at s n) where
+    pub no_space : (b ≡ 32 → ⊥) → Err n ≡ spaced s go r
     no_space h = rw (e, ← g, ne_eqb b 32)
 
     pub a_space : b ≡ 32 → {x : Reading} → x ≡ go (n + 1) → x ≡ spaced s go r
@@ -74,21 +73,21 @@ module _ (s : List ℕ) (go : ℕ → Reading) {r : Reading} where
 -- ---- a line, whole
 
 module _ (s : List ℕ) (params start : ℕ) (c : StoreCount) (k at : ℕ) where
-  pub not_ordered : store_order params c k ≡ false → store_keyed s params start c (Got k at) ≡ store_line 22 start c
+  pub not_ordered : store_order params c k ≡ false → store_keyed s params start c (Ok (k, at)) ≡ store_line 22 start c
   not_ordered e = rw e
 
   module _ (o : store_order params c k ≡ true) {x : Reading} (q : x ≡ store_words s k at) where
-    ordered : store_keyed s params start c (Got k at) ≡ store_shaped s c k x
+    ordered : store_keyed s params start c (Ok (k, at)) ≡ store_shaped s c k x
     ordered = rw (o, q)
 
-    pub words_not : {p : ℕ} → x ≡ Bad p → store_keyed s params start c (Got k at) ≡ store_line 22 p c
+    pub words_not : {p : ℕ} → x ≡ Err p → store_keyed s params start c (Ok (k, at)) ≡ store_line 22 p c
     words_not e = ordered ∙ rw e
 
-    module _ {v n : ℕ} (e : x ≡ Got v n) {b : ℕ} (g : b ≡ byte_at s n) where
-      pub no_feed : (b ≡ 10 → ⊥) → store_keyed s params start c (Got k at) ≡ store_line 22 n c
+    module _ {v n : ℕ} (e : x ≡ Ok (v, n)) {b : ℕ} (g : b ≡ byte_at s n) where
+      pub no_feed : (b ≡ 10 → ⊥) → store_keyed s params start c (Ok (k, at)) ≡ store_line 22 n c
       no_feed h = ordered ∙ rw (e, ← g, ne_eqb b 10)
 
-      pub feed : b ≡ 10 → store_keyed s params start c (Got k at) ≡ store_limits (n + 1) (counted c k v)
+      pub feed : b ≡ 10 → store_keyed s params start c (Ok (k, at)) ≡ store_limits (n + 1) (counted c k v)
       feed h = ordered ∙ rw (e, ← g, eq-eqb b 10)
 
 -- ---- the text, whole

@@ -36,8 +36,8 @@ fn datum_of(base: u64, r: Reading) -> Reading
     ensures { result ≡ texts.datum_of base r }
 {
     match r {
-        Reading::Got(w, n) => Reading::Got(base + w, n),
-        Reading::Bad(p) => Reading::Bad(p),
+        Ok((w, n)) => Ok((base + w, n)),
+        Err(p) => Err(p),
     }
 }
 
@@ -47,8 +47,8 @@ fn place_of(r: Reading) -> Reading
     ensures { result ≡ texts.place_of r }
 {
     match r {
-        Reading::Got(k, n) => Reading::Got((k + 3) * 4294967296, n),
-        Reading::Bad(p) => Reading::Bad(p),
+        Ok((k, n)) => Ok(((k + 3) * 4294967296, n)),
+        Err(p) => Err(p),
     }
 }
 
@@ -64,7 +64,7 @@ pub fn cell_word(s: &[u8], at: usize) -> Reading
     if b == 98 {
         return place_of(plain_at(s, at + 1));
     }
-    Reading::Bad(at)
+    Err(at)
 }
 
 // An argument: `cN`, or as a cell.
@@ -93,19 +93,19 @@ fn cells_from(s: &[u8], at: usize) -> Reading
         left -= 1;
         let r = cell_word(s, i);
         match r {
-            Reading::Bad(p) => {
-                return Reading::Bad(p);
+            Err(p) => {
+                return Err(p);
             }
-            Reading::Got(_, n) => {
+            Ok((_, n)) => {
                 count += 1;
                 if byte_at(s, n) != 32 {
-                    return Reading::Got(count, n);
+                    return Ok((count, n));
                 }
                 i = n + 1;
             }
         }
     }
-    Reading::Bad(i)
+    Err(i)
 }
 
 // A space and cells after what was read.
@@ -113,13 +113,13 @@ fn cells_on(s: &[u8], r: Reading) -> Reading
     ensures { result ≡ texts.spaced s.now (texts.cells_from s.now (length s.now) 0) r }
 {
     match r {
-        Reading::Got(_, n) => {
+        Ok((_, n)) => {
             if byte_at(s, n) != 32 {
-                return Reading::Bad(n);
+                return Err(n);
             }
             cells_from(s, n + 1)
         }
-        Reading::Bad(p) => Reading::Bad(p),
+        Err(p) => Err(p),
     }
 }
 
@@ -128,13 +128,13 @@ fn tag_on(s: &[u8], r: Reading) -> Reading
     ensures { result ≡ texts.spaced s.now (λ m. texts.spaced s.now (texts.cells_from s.now (length s.now) 0) (words.number_at s.now m)) r }
 {
     match r {
-        Reading::Got(_, n) => {
+        Ok((_, n)) => {
             if byte_at(s, n) != 32 {
-                return Reading::Bad(n);
+                return Err(n);
             }
             cells_on(s, number_at(s, n + 1))
         }
-        Reading::Bad(p) => Reading::Bad(p),
+        Err(p) => Err(p),
     }
 }
 
@@ -153,7 +153,7 @@ pub fn block_words(s: &[u8], at: usize) -> Reading
 fn store_key(s: &[u8], at: usize) -> Reading
     ensures { result ≡ texts.store_key s.now at }
 {
-    let r = or_word(s, at, b"run=", 1, Reading::Bad(at));
+    let r = or_word(s, at, b"run=", 1, Err(at));
     let r = or_word(s, at, b"block=", 2, r);
     or_word(s, at, b"arg=", 3, r)
 }
@@ -261,20 +261,20 @@ fn limited(next: usize, c: StoreCount) -> Lined
 #[tactic(auto, using(crate::proofs::Laws::words_most, crate::proofs::Ways::feed, crate::proofs::Ways::no_feed, crate::proofs::Ways::not_ordered, crate::proofs::Ways::words_not, text::proofs::Laws::inside))]
 fn keyed_line(s: &[u8], params: usize, start: usize, c: StoreCount, k: u64, at: usize) -> Lined
     requires { (length s.now ≤ limits.store) × (Few 290 c × ((1 ≤ k))) }
-    ensures { texts.store_line result.answer result.next result.count ≡ texts.store_keyed s.now params start c (Reading.Got k at) }
+    ensures { texts.store_line result.answer result.next result.count ≡ texts.store_keyed s.now params start c (Ok (k, at)) }
 {
     if !store_order(params, c, k) {
         return with_answer(22, start, c);
     }
     let w = store_words(s, k, at);
     match w {
-        Reading::Got(v, n) => {
+        Ok((v, n)) => {
             if byte_at(s, n) != 10 {
                 return with_answer(22, n, c);
             }
             limited(n + 1, counted(c, k, v))
         }
-        Reading::Bad(p) => with_answer(22, p, c),
+        Err(p) => with_answer(22, p, c),
     }
 }
 
@@ -285,8 +285,8 @@ fn line_at(s: &[u8], params: usize, at: usize, c: StoreCount) -> Lined
 {
     let w = store_key(s, at);
     match w {
-        Reading::Got(k, n) => keyed_line(s, params, at, c, k, n),
-        Reading::Bad(p) => with_answer(22, p, c),
+        Ok((k, n)) => keyed_line(s, params, at, c, k, n),
+        Err(p) => with_answer(22, p, c),
     }
 }
 

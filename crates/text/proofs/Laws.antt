@@ -6,12 +6,10 @@ use Prim.Native.Nat.{zero-le, suc-le-suc}
 use lib.ListN.{get_or-eq_default, length-drop}
 use lib.Seq.{drop-cons}
 use borrow.Author.Tests.{ltb-false, eqb-true}
-use Rattle.std.specs.Prelude.{◌+◌, ◌-◌, ◌*◌, ◌<◌, ◌≤◌, ◌∷◌, ◌≡◌}
-use Rattle.rules.specs.Prelude.{ℕ, suc, max, true, List, [], subst, ltb, eqb, length, get_or, drop}
-use Rattle.rules.specs.declared.Reading.{Reading}
-use Rattle.rules.specs.declared.Reading.TheVariants.{Got, Bad}
-use Rattle.rules.specs.declared.Head.{Head}
-use Rattle.rules.specs.declared.Head.TheVariants.{Node, Not}
+use Rattle.std.specs.Prelude.{◌+◌, ◌-◌, ◌*◌, ◌<◌, ◌≤◌, ◌∷◌, ◌≡◌, Ok, Err}
+use Rattle.rules.specs.Prelude.{ℕ, suc, max, true, List, [], ap, subst, ltb, eqb, length, get_or, drop}
+use Rattle.rules.specs.Text.Words.{Reading}
+use Rattle.rules.specs.Text.Words.{Head}
 use Rattle.rules.specs.Bytes.{bytes}
 use Rattle.rules.proofs.Laws.Tests.{by_when}
 use Rattle.rules.specs.Text.Words.{byte_at, value_of, next_of, more_digits, magnitude_at, plain_at, minus, number_at, agreed, or_word, var_at, operator_at, head_of, operator_head, head_at}
@@ -36,8 +34,8 @@ found s i b h e = let x : byte_at s i ≡ b = eqb-true (byte_at s i) b e in insi
 -- ---- a reading: its value is from `least` to `most`, its next byte from `from` to `to`; a wrong byte is before `from`, or up to `to`
 
 pub data Reads (from to least most : ℕ) : Reading → Type 0 where
-  right : (v n : ℕ) → from ≤ n → n ≤ to → least ≤ v → v ≤ most → Reads from to least most (Got v n)
-  wrong : (p : ℕ) → p < max from (to + 1) → Reads from to least most (Bad p)
+  right : (v n : ℕ) → from ≤ n → n ≤ to → least ≤ v → v ≤ most → Reads from to least most (Ok (v, n))
+  wrong : (p : ℕ) → p < max from (to + 1) → Reads from to least most (Err p)
 
 pub record Read (from to least most v n : ℕ) : Type 0 where
   pub starts : from ≤ n
@@ -46,10 +44,10 @@ pub record Read (from to least most v n : ℕ) : Type 0 where
   pub high : v ≤ most
 
 module _ {from to least most : ℕ} where
-  pub got : {r : Reading} {v n : ℕ} → Reads from to least most r → r ≡ Got v n → Read from to least most v n
+  pub got : {r : Reading} {v n : ℕ} → Reads from to least most r → r ≡ Ok (v, n) → Read from to least most v n
   got {v = v} {n = n} (right x y f t l m) e =
-      let a : x ≡ v = cc in
-      let b : y ≡ n = cc in
+      let a : x ≡ v = ap value_of e in
+      let b : y ≡ n = ap next_of e in
       record { starts = omega arith; ends = omega arith; low = omega arith; high = omega arith }
   got (wrong p h) e = let z : ◌≡◌ {A = ℕ} 0 1 = cc in absurd (omega arith)
 
@@ -74,8 +72,8 @@ unfolding more_digits
 digits_reads [] i v most h = right v i (omega arith) (omega arith) (omega arith) h
 digits_reads (b ∷ l) i v most h =
     let P = Reads i (i + suc (length l)) v most in
-    let stop : P (Got v i) = right v i (omega arith) (omega arith) (omega arith) h in
-    let bad : P (Bad i) = wrong i (omega arith) in
+    let stop : P (Ok (v, i)) = right v i (omega arith) (omega arith) (omega arith) h in
+    let bad : P (Err i) = wrong i (omega arith) in
     by_when P (ltb b 48) _ _ (λ _. stop) (λ _.
     by_when P (ltb 57 b) _ _ (λ _. stop) (λ _.
     by_when P (eqb v 0) _ _ (λ _. bad) (λ _.
@@ -87,7 +85,7 @@ magnitude_reads : (s : List ℕ) (at low most : ℕ) → 48 ≤ low → 9 ≤ mo
 unfolding magnitude_at
 magnitude_reads s at low most h k =
     let P = Reads (at + 1) (length s) (low - 48) most in
-    let bad : P (Bad at) = wrong at (omega arith) in
+    let bad : P (Err at) = wrong at (omega arith) in
     by_when P (ltb (byte_at s at) low) _ _ (λ _. bad) (λ d.
     by_when P (ltb 57 (byte_at s at)) _ _ (λ _. bad) (λ e.
     let a : low ≤ byte_at s at = ltb-false (byte_at s at) low d in
@@ -97,7 +95,7 @@ magnitude_reads s at low most h k =
     looser (omega arith) (omega arith) (omega arith) (omega arith) (omega arith)
     (digits_reads (drop (at + 1) s) (at + 1) (byte_at s at - 48) most (omega arith))))
 
-pub magnitude_most : (s : List ℕ) (at low most : ℕ) {v n : ℕ} → magnitude_at s at low most ≡ Got v n → 48 ≤ low → 9 ≤ most → v ≤ most
+pub magnitude_most : (s : List ℕ) (at low most : ℕ) {v n : ℕ} → magnitude_at s at low most ≡ Ok (v, n) → 48 ≤ low → 9 ≤ most → v ≤ most
 magnitude_most s at low most e h k = (got (magnitude_reads s at low most h k) e).high
 
 pub plain_reads : (s : List ℕ) (at : ℕ) → Reads (at + 1) (length s) 0 2147483647 (plain_at s at)
@@ -172,8 +170,8 @@ pub record HeadRead (from to op a n : ℕ) : Type 0 where
   pub small : a ≤ 4294967295
 
 abbrev Heads : ℕ → ℕ → Head → Type 0
-Heads from to (Node op a n) = HeadRead from to op a n
-Heads from to (Not p) = Unit
+Heads from to (Ok (op, a, n)) = HeadRead from to op a n
+Heads from to (Err p) = Unit
 
 of_heads : {from to most : ℕ} (op : ℕ) {r : Reading} → 1 ≤ op → op ≤ 11 → most ≤ 4294967295 → Reads from to 0 most r → Heads from to (head_of op r)
 of_heads op l m b (right v n f t x y) = record { starts = f; ends = t; low = l; high = m; small = omega arith }
@@ -202,5 +200,5 @@ head_heads s at =
     (λ _. of_heads 2 (omega arith) (omega arith) (omega arith) (var_reads s at)))
     (λ _. operator))
 
-pub head_read : (s : List ℕ) (at : ℕ) {op a n : ℕ} → head_at s at ≡ Node op a n → HeadRead (at + 1) (length s) op a n
+pub head_read : (s : List ℕ) (at : ℕ) {op a n : ℕ} → head_at s at ≡ Ok (op, a, n) → HeadRead (at + 1) (length s) op a n
 head_read s at e = subst (Heads (at + 1) (length s)) e (head_heads s at)

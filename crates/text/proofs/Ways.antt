@@ -5,12 +5,9 @@ use native.Mathlib.Omega.{arith}
 use lib.ListN.{drop_of_length-le}
 use lib.Seq.{drop-cons}
 use borrow.Author.Tests.{lt-ltb, le-ltb, eq-eqb, ne_eqb}
-use Rattle.std.specs.Prelude.{◌+◌, ◌-◌, ◌*◌, ◌<◌, ◌≤◌, ◌&&◌, ◌≡◌}
+use Rattle.std.specs.Prelude.{◌+◌, ◌-◌, ◌*◌, ◌<◌, ◌≤◌, ◌&&◌, ◌≡◌, Ok, Err}
 use Rattle.rules.specs.Prelude.{ℕ, suc, max, Bool, true, false, not, List, refl, sym, ap, ◌∙◌, eqb, length, get_or, drop}
-use Rattle.rules.specs.declared.Reading.{Reading}
-use Rattle.rules.specs.declared.Reading.TheVariants.{Got, Bad}
-use Rattle.rules.specs.declared.Next.TheVariants as N
-use Rattle.rules.specs.declared.Head.TheVariants.{Node, Not}
+use Rattle.rules.specs.Text.Words.{Reading}
 use Rattle.rules.specs.When.{when}
 use Rattle.rules.proofs.Laws.Tests.{by_when}
 use Rattle.text.proofs.Laws.{inside, get_d_any}
@@ -25,30 +22,30 @@ choice false y o w v e = rw e
 -- ---- digits, at i
 
 module _ (s : List ℕ) (i v most : ℕ) where
-  pub at_end : length s ≤ i → more_digits (drop i s) i v most ≡ Got v i
+  pub at_end : length s ≤ i → more_digits (drop i s) i v most ≡ Ok (v, i)
   unfolding more_digits
   at_end h = rw (drop_of_length-le s)
 
   module _ (h : i < length s) where
-    pub at_low : get_or s i 0 < 48 → more_digits (drop i s) i v most ≡ Got v i
+    pub at_low : get_or s i 0 < 48 → more_digits (drop i s) i v most ≡ Ok (v, i)
     unfolding more_digits
     at_low a = rw (drop-cons s i 0, lt-ltb (get_or s i 0) 48)
 
-    pub at_high : 48 ≤ get_or s i 0 → 57 < get_or s i 0 → more_digits (drop i s) i v most ≡ Got v i
+    pub at_high : 48 ≤ get_or s i 0 → 57 < get_or s i 0 → more_digits (drop i s) i v most ≡ Ok (v, i)
     unfolding more_digits
     at_high a b = rw (drop-cons s i 0, le-ltb (get_or s i 0) 48, lt-ltb 57 (get_or s i 0))
 
     module _ (a : 48 ≤ get_or s i 0) (b : get_or s i 0 ≤ 57) where
-      pub at_zero : v ≡ 0 → more_digits (drop i s) i v most ≡ Bad i
+      pub at_zero : v ≡ 0 → more_digits (drop i s) i v most ≡ Err i
       unfolding more_digits
       at_zero e = rw (drop-cons s i 0, le-ltb (get_or s i 0) 48, le-ltb 57 (get_or s i 0), eq-eqb v 0)
 
       -- where v is 0, too
-      pub at_over : most < v * 10 + (get_or s i 0 - 48) → more_digits (drop i s) i v most ≡ Bad i
+      pub at_over : most < v * 10 + (get_or s i 0 - 48) → more_digits (drop i s) i v most ≡ Err i
       unfolding more_digits
       at_over e =
           rw (drop-cons s i 0, le-ltb (get_or s i 0) 48, le-ltb 57 (get_or s i 0), lt-ltb most (v * 10 + (get_or s i 0 - 48)))
-          (by_when (λ (r : Reading). r ≡ Bad i) (eqb v 0) _ _ (λ _. refl) (λ _. refl))
+          (by_when (λ (r : Reading). r ≡ Err i) (eqb v 0) _ _ (λ _. refl) (λ _. refl))
 
       pub at_more : (v ≡ 0 → ⊥) → v * 10 + (get_or s i 0 - 48) ≤ most
           → more_digits (drop i s) i v most ≡ more_digits (drop (i + 1) s) (i + 1) (v * 10 + (get_or s i 0 - 48)) most
@@ -57,19 +54,19 @@ module _ (s : List ℕ) (i v most : ℕ) where
 
 -- after a leading zero, by the byte there
 module _ (s : List ℕ) (at : ℕ) {b : ℕ} (e : b ≡ byte_at s at) (most : ℕ) where
-  pub zero_low : b < 48 → more_digits (drop at s) at 0 most ≡ Got 0 at
+  pub zero_low : b < 48 → more_digits (drop at s) at 0 most ≡ Ok (0, at)
   zero_low l =
       let h : at < length s = inside s at (omega arith) in
       at_low s at 0 most h (omega (arith, get_d_any s at 0 256 h))
 
-  high_by : 57 < b → Dec (at < length s) → more_digits (drop at s) at 0 most ≡ Got 0 at
+  high_by : 57 < b → Dec (at < length s) → more_digits (drop at s) at 0 most ≡ Ok (0, at)
   high_by g (yes h) = let x = get_d_any s at 0 256 h in at_high s at 0 most h (omega arith) (omega arith)
   high_by g (no h) = at_end s at 0 most (omega arith)
 
-  pub zero_high : 57 < b → more_digits (drop at s) at 0 most ≡ Got 0 at
+  pub zero_high : 57 < b → more_digits (drop at s) at 0 most ≡ Ok (0, at)
   zero_high g = high_by g (dec_lt at (length s))
 
-  pub zero_digit : 48 ≤ b → b ≤ 57 → more_digits (drop at s) at 0 most ≡ Bad at
+  pub zero_digit : 48 ≤ b → b ≤ 57 → more_digits (drop at s) at 0 most ≡ Err at
   zero_digit l g =
       let h : at < length s = inside s at (omega arith) in
       let x = get_d_any s at 0 256 h in
@@ -97,11 +94,11 @@ module _ (w s : List ℕ) (k i : ℕ) where
       goes_on e = rw (drop-cons s i 0 g, drop-cons w k 0 h, eq-eqb (get_or s i 0) (get_or w k 0), add-one k, add-one i)
 
 module _ (s : List ℕ) (at : ℕ) (w : List ℕ) (k p n : ℕ) (e : n ≡ agreed w (drop at s)) where
-  pub or_hit : n ≡ length w → or_word s at w k (Bad p) ≡ Got k (at + n)
+  pub or_hit : n ≡ length w → or_word s at w k (Err p) ≡ Ok (k, at + n)
   unfolding or_word
-  or_hit h = rw (← e, eq-eqb n (length w) h) (ap (λ (x : ℕ). Got k (at + x)) (sym h))
+  or_hit h = rw (← e, eq-eqb n (length w) h) (ap (λ (x : ℕ). Ok (k, at + x)) (sym h))
 
-  pub or_miss : (n ≡ length w → ⊥) → or_word s at w k (Bad p) ≡ Bad (max p (at + n))
+  pub or_miss : (n ≡ length w → ⊥) → or_word s at w k (Err p) ≡ Err (max p (at + n))
   unfolding or_word
   or_miss h = rw (← e, ne_eqb n (length w))
 
@@ -109,12 +106,12 @@ module _ (s : List ℕ) (at : ℕ) (w : List ℕ) (k p n : ℕ) (e : n ≡ agree
 
 module _ (s : List ℕ) (at : ℕ) {b : ℕ} (e : b ≡ byte_at s at) where
   module _ (low most : ℕ) where
-    pub too_low : b < low → magnitude_at s at low most ≡ Bad at
+    pub too_low : b < low → magnitude_at s at low most ≡ Err at
     unfolding magnitude_at
     too_low h = rw (← e, lt-ltb b low)
 
     module _ (l : low ≤ b) where
-      pub too_high : 57 < b → magnitude_at s at low most ≡ Bad at
+      pub too_high : 57 < b → magnitude_at s at low most ≡ Err at
       unfolding magnitude_at
       too_high h = rw (← e, le-ltb b low, lt-ltb 57 b)
 
@@ -133,11 +130,11 @@ module _ (s : List ℕ) (at : ℕ) {b : ℕ} (e : b ≡ byte_at s at) where
   unfolding number_at
   after_minus h = rw (← e, eq-eqb b 45)
 
-  pub byte_there : (x : ℕ) → b ≡ x → byte_is s at x ≡ N.At (at + 1)
+  pub byte_there : (x : ℕ) → b ≡ x → byte_is s at x ≡ Ok (at + 1)
   unfolding byte_is
   byte_there x h = rw (← e, eq-eqb b x)
 
-  pub byte_not : (x : ℕ) → (b ≡ x → ⊥) → byte_is s at x ≡ N.Bad at
+  pub byte_not : (x : ℕ) → (b ≡ x → ⊥) → byte_is s at x ≡ Err at
   unfolding byte_is
   byte_not x h = rw (← e, ne_eqb b x)
 
@@ -145,14 +142,14 @@ module _ (s : List ℕ) (at : ℕ) {b : ℕ} (e : b ≡ byte_at s at) where
   unfolding var_at
   var_there_lem h = rw (← e, eq-eqb b 118)
 
-  pub var_not : (b ≡ 118 → ⊥) → var_at s at ≡ Bad at
+  pub var_not : (b ≡ 118 → ⊥) → var_at s at ≡ Err at
   unfolding var_at
   var_not h = rw (← e, ne_eqb b 118)
 
-  pub val_short : (b ≡ 32 → ⊥) → operator_head s (Got 5 at) ≡ Not at
+  pub val_short : (b ≡ 32 → ⊥) → operator_head s (Ok (5, at)) ≡ Err at
   val_short h = rw (← e, ne_eqb b 32)
 
-  pub val_row : b ≡ 32 → operator_head s (Got 5 at) ≡ head_of 5 (plain_at s (at + 1))
+  pub val_row : b ≡ 32 → operator_head s (Ok (5, at)) ≡ head_of 5 (plain_at s (at + 1))
   val_row h = rw (← e, eq-eqb b 32)
 
   pub head_number : b < 58 → head_at s at ≡ head_of 1 (number_at s at)
@@ -169,5 +166,5 @@ module _ (s : List ℕ) (at : ℕ) {b : ℕ} (e : b ≡ byte_at s at) where
     unfolding head_at
     head_operator t = rw (le-ltb (byte_at s at) 58 (rw e at h)) (choice (eqb (byte_at s at) 118) (eqb (byte_at s (at + 1)) 97) _ _ v q ∙ rw t)
 
-pub no_val : (s : List ℕ) (op n : ℕ) → (op ≡ 5 → ⊥) → operator_head s (Got op n) ≡ Node op 0 n
+pub no_val : (s : List ℕ) (op n : ℕ) → (op ≡ 5 → ⊥) → operator_head s (Ok (op, n)) ≡ Ok (op, 0, n)
 no_val s op n h = rw (ne_eqb op 5)

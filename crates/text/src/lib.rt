@@ -27,8 +27,8 @@ pub fn value_of(r: Reading) -> u64
     ensures { result ≡ words.value_of r }
 {
     match r {
-        Reading::Got(v, _) => v,
-        Reading::Bad(_) => 0,
+        Ok((v, _)) => v,
+        Err(_) => 0,
     }
 }
 
@@ -37,8 +37,8 @@ pub fn next_of(r: Reading) -> usize
     ensures { result ≡ words.next_of r }
 {
     match r {
-        Reading::Got(_, n) => n,
-        Reading::Bad(p) => p,
+        Ok((_, n)) => n,
+        Err(p) => p,
     }
 }
 
@@ -51,12 +51,12 @@ fn after_zero(s: &[u8], at: usize) -> Reading
 {
     let b = byte_at(s, at);
     if b < 48 {
-        return Reading::Got(0, at);
+        return Ok((0, at));
     }
     if 57 < b {
-        return Reading::Got(0, at);
+        return Ok((0, at));
     }
-    Reading::Bad(at)
+    Err(at)
 }
 
 // The digits after the number `first`, which is not 0 and may grow to `most`.
@@ -70,19 +70,19 @@ fn more_digits(s: &[u8], from: usize, first: u64, most: u64) -> Reading
     while i < s.len() {
         let b = wide(s[i]);
         if b < 48 {
-            return Reading::Got(v, i);
+            return Ok((v, i));
         }
         if 57 < b {
-            return Reading::Got(v, i);
+            return Ok((v, i));
         }
         let next = v * 10 + (b - 48);
         if most < next {
-            return Reading::Bad(i);
+            return Err(i);
         }
         v = next;
         i += 1;
     }
-    Reading::Got(v, i)
+    Ok((v, i))
 }
 
 // Digits whose first is from `low` to `9`.
@@ -93,10 +93,10 @@ fn magnitude_at(s: &[u8], at: usize, low: u64, most: u64) -> Reading
 {
     let b = byte_at(s, at);
     if b < low {
-        return Reading::Bad(at);
+        return Err(at);
     }
     if 57 < b {
-        return Reading::Bad(at);
+        return Err(at);
     }
     if b == 48 {
         return after_zero(s, at + 1);
@@ -122,8 +122,8 @@ pub fn number_at(s: &[u8], at: usize) -> Reading
     }
     let m = magnitude_at(s, at + 1, 49, 2147483648);
     match m {
-        Reading::Got(v, n) => Reading::Got(4294967296 - v, n),
-        Reading::Bad(p) => Reading::Bad(p),
+        Ok((v, n)) => Ok((4294967296 - v, n)),
+        Err(p) => Err(p),
     }
 }
 
@@ -163,13 +163,13 @@ pub fn or_word(s: &[u8], at: usize, w: &[u8], k: u64, found: Reading) -> Reading
     ensures { result ≡ words.or_word s.now at w.now k found }
 {
     match found {
-        Reading::Got(j, n) => Reading::Got(j, n),
-        Reading::Bad(p) => {
+        Ok((j, n)) => Ok((j, n)),
+        Err(p) => {
             let n = agree(s, at, w);
             if n == w.len() {
-                Reading::Got(k, at + n)
+                Ok((k, at + n))
             } else {
-                Reading::Bad(larger(p, at + n))
+                Err(larger(p, at + n))
             }
         }
     }
@@ -181,9 +181,9 @@ pub fn byte_is(s: &[u8], at: usize, b: u8) -> Next
     ensures { result ≡ words.byte_is s.now at b }
 {
     if byte_at(s, at) == wide(b) {
-        Next::At(at + 1)
+        Ok(at + 1)
     } else {
-        Next::Bad(at)
+        Err(at)
     }
 }
 
@@ -195,7 +195,7 @@ pub fn var_at(s: &[u8], at: usize) -> Reading
     if byte_at(s, at) == 118 {
         plain_at(s, at + 1)
     } else {
-        Reading::Bad(at)
+        Err(at)
     }
 }
 
@@ -208,18 +208,18 @@ fn operator_at(s: &[u8], at: usize) -> Reading
 {
     let b = byte_at(s, at);
     match b {
-        97 => or_word(s, at, b"add", 7, Reading::Bad(at)),
-        101 => or_word(s, at, b"eq", 10, Reading::Bad(at)),
-        102 => or_word(s, at, b"fetch", 3, Reading::Bad(at)),
-        105 => or_word(s, at, b"int", 4, Reading::Bad(at)),
-        108 => or_word(s, at, b"lt", 11, Reading::Bad(at)),
-        109 => or_word(s, at, b"mul", 9, Reading::Bad(at)),
+        97 => or_word(s, at, b"add", 7, Err(at)),
+        101 => or_word(s, at, b"eq", 10, Err(at)),
+        102 => or_word(s, at, b"fetch", 3, Err(at)),
+        105 => or_word(s, at, b"int", 4, Err(at)),
+        108 => or_word(s, at, b"lt", 11, Err(at)),
+        109 => or_word(s, at, b"mul", 9, Err(at)),
         115 => {
-            let r = or_word(s, at, b"step", 6, Reading::Bad(at));
+            let r = or_word(s, at, b"step", 6, Err(at));
             or_word(s, at, b"sub", 8, r)
         }
-        118 => or_word(s, at, b"val", 5, Reading::Bad(at)),
-        _ => Reading::Bad(at),
+        118 => or_word(s, at, b"val", 5, Err(at)),
+        _ => Err(at),
     }
 }
 
@@ -240,8 +240,8 @@ fn head_of(op: u32, r: Reading) -> Head
     ensures { result ≡ words.head_of op r }
 {
     match r {
-        Reading::Got(v, n) => Head::Node(op, v as u32, n),
-        Reading::Bad(p) => Head::Not(p),
+        Ok((v, n)) => Ok((op, v as u32, n)),
+        Err(p) => Err(p),
     }
 }
 
@@ -252,16 +252,16 @@ fn operator_head(s: &[u8], at: usize) -> Head
 {
     let w = operator_at(s, at);
     match w {
-        Reading::Got(op, n) => {
+        Ok((op, n)) => {
             if op != 5 {
-                return Head::Node(op as u32, 0, n);
+                return Ok((op as u32, 0, n));
             }
             if byte_at(s, n) != 32 {
-                return Head::Not(n);
+                return Err(n);
             }
             head_of(5, plain_at(s, n + 1))
         }
-        Reading::Bad(p) => Head::Not(p),
+        Err(p) => Err(p),
     }
 }
 

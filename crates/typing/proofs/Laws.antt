@@ -1,4 +1,5 @@
 -- An address that is found in viewed rows is small; and an expression's judgement from those of its operands. Assumes nothing.
+use Rattle.std.specs.Prelude.{Ok, Err}
 use mathlib.Core.Path.{◌≡◌, refl, sym, ap, ap₂, subst}
 use mathlib.Core.List.{List}
 use Prim.Native.Nat.{ℕ, ◌<◌}
@@ -11,9 +12,8 @@ use Rattle.rules.specs.declared.Tag.{Tag}
 use Rattle.rules.specs.declared.Tag.TheVariants as G
 use Rattle.rules.specs.declared.Entry.{Entry}
 use Rattle.rules.specs.declared.Env.{Env}
-use Rattle.rules.specs.declared.Addr.{Addr}
-use Rattle.rules.specs.declared.Addr.TheVariants as A
-use Rattle.rules.specs.declared.Judged.{Judged}
+use Rattle.rules.specs.Typing.{Addr}
+use Rattle.rules.specs.Typing.{Judged}
 use Rattle.rules.specs.When.{need}
 use Rattle.rules.specs.Numbers.{among, nat_of}
 use Rattle.rules.specs.Program.{Rows, Var, psi_of, prods_of, fields_of}
@@ -33,16 +33,16 @@ among_below (pos k) n h = ltb-true k n (held _ h)
 among_below (negsuc k) n h = absurd h
 
 abbrev Near : Addr → Type 0
-Near (A.At t o) = (t < 16) × (o < 16)
-Near (A.Bad n) = Unit
+Near (Ok (t, o)) = (t < 16) × (o < 16)
+Near (Err n) = Unit
 
 module _ (Z R : List ℕ) (r : ℕ) where
   near_at : (o t m : Num) → Near (addr_at (rows_from Z R) r o t m)
   near_at o t m =
-      let a = A.At (nat_of t.n) (nat_of (o.n +ℤ m.n)) in
+      let a = Ok (nat_of t.n, nat_of (o.n +ℤ m.n)) in
       let b = among (o.n +ℤ m.n) (fields_of (rows_from Z R) r (nat_of t.n)) in
-      by_need Near (A.Bad 8) (among t.n (prods_of (rows_from Z R) r)) (need (A.Bad 8) b a) tt
-      (λ h. by_need Near (A.Bad 8) b a tt
+      by_need Near (Err 8) (among t.n (prods_of (rows_from Z R) r)) (need (Err 8) b a) tt
+      (λ h. by_need Near (Err 8) b a tt
       (λ k. (omega (lin, among_below t.n _ h, prods_small Z R r), omega (lin, among_below (o.n +ℤ m.n) _ k, fields_small Z R r (nat_of t.n)))))
 
   near_spot : (s : Spot) (m : Tag) → Near (addr_spot (rows_from Z R) r s m)
@@ -50,7 +50,7 @@ module _ (Z R : List ℕ) (r : ℕ) where
   near_spot (spot o t) G.Unknown = tt
   near_spot (spot o t) (G.Known m) = near_at o t m
 
-  pub near : (e : Entry) (m : Tag) (t o : ℕ) → address_of (rows_from Z R) r e m ≡ A.At t o → (t < 16) × (o < 16)
+  pub near : (e : Entry) (m : Tag) (t o : ℕ) → address_of (rows_from Z R) r e m ≡ Ok (t, o) → (t < 16) × (o < 16)
   near e m t o h = subst Near h (near_spot (spot_of e.boxed e.offset e.tag (lone (psi_of (rows_from Z R) r) (prods_of (rows_from Z R) r))) m)
 
 -- ---- the walk

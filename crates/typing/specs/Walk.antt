@@ -1,12 +1,11 @@
 -- The judgement of the tree at a node, with the node after it; and a node's judgement from its operands'. Assumes nothing.
-use Rattle.std.specs.Prelude.{◌≡◌}
+use Rattle.std.specs.Prelude.{◌≡◌, Ok, Err}
 use Rattle.rules.specs.Prelude.{ℕ, List, refl}
 use Rattle.rules.specs.declared.Env.{Env}
 use Rattle.rules.specs.declared.Kind.TheVariants.{Cint, Value}
 use Rattle.rules.specs.declared.Op.{Op}
 use Rattle.rules.specs.declared.Tag.TheVariants as G
-use Rattle.rules.specs.declared.Judged.{Judged}
-use Rattle.rules.specs.declared.Judged.TheVariants.{No, Ok}
+use Rattle.rules.specs.Typing.{Judged}
 use Rattle.rules.specs.Numbers.{num_code}
 use Rattle.rules.specs.Program.{Rows, Var}
 use Rattle.rules.specs.View.{Form, none, lit_f, var_f, fetch_f, int_f, val_f, step_f, calc, tree_of, tree_at}
@@ -16,23 +15,23 @@ use Rattle.typing.specs.declared.Found.{Found}
 
 -- of an operand of arithmetic, what plays a part: whether it is an int, and its tag
 abbrev pub tag_only : Judged → Judged
-tag_only (No n) = No n
-tag_only (Ok Cint e) = Ok Cint (int_entry e.tag)
-tag_only (Ok (Value r) e) = Ok (Value 0) (int_entry e.tag)
+tag_only (Err n) = Err n
+tag_only (Ok (Cint, e)) = Ok (Cint, int_entry e.tag)
+tag_only (Ok (Value r, e)) = Ok (Value 0, int_entry e.tag)
 
 pub arith_tags : (o : Op) (x y : Judged) → ty_arith o (tag_only x) y ≡ ty_arith o x y
 unfolding ty_arith
-arith_tags o (No n) y = refl
-arith_tags o (Ok Cint e) (No m) = refl
-arith_tags o (Ok (Value r) e) (No m) = refl
-arith_tags o (Ok Cint e) (Ok Cint d) = refl
-arith_tags o (Ok Cint e) (Ok (Value q) d) = refl
-arith_tags o (Ok (Value r) e) (Ok l d) = refl
+arith_tags o (Err n) y = refl
+arith_tags o (Ok (Cint, e)) (Err m) = refl
+arith_tags o (Ok (Value r, e)) (Err m) = refl
+arith_tags o (Ok (Cint, e)) (Ok (Cint, d)) = refl
+arith_tags o (Ok (Cint, e)) (Ok (Value q, d)) = refl
+arith_tags o (Ok (Value r, e)) (Ok (l, d)) = refl
 
 -- a node's judgement, from its argument and the judgements of its operands
 unfoldable pub form : Rows → List Var → Env → Form → ℕ → Judged → Judged → Judged
-form ρ D Γ none a x y = No 4
-form ρ D Γ lit_f a x y = Ok Cint (int_entry (G.Known (num_code a)))
+form ρ D Γ none a x y = Err 4
+form ρ D Γ lit_f a x y = Ok (Cint, int_entry (G.Known (num_code a)))
 form ρ D Γ var_f a x y = ty_var D Γ a
 form ρ D Γ fetch_f a x y = ty_fetch ρ x
 form ρ D Γ int_f a x y = ty_int ρ x

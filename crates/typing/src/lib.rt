@@ -6,14 +6,13 @@ ghost use Rattle.std.specs.Prelude.{◌≡◌, List, ℕ, ◌/◌, ◌%◌, ◌<
 ghost use Rattle.rules.specs.Numbers.{num};
 ghost use Rattle.rules.specs.Program.{Rows, Var, entry};
 ghost use Rattle.rules.specs.View.{rows_from, vars_from, form_of};
-ghost use Rattle.rules.specs.Typing.{arith_tag, arith_kinds, suits_tag, val_of, immediate, int_of, lone, spot, spot_of, addr_at, addr_spot, address_of, fetched, stepped, step_kinds, ty_var, ty_arith, ty_val, ty_int, ty_fetch, ty_step};
+ghost use Rattle.rules.specs.Typing.{Judged, arith_tag, arith_kinds, suits_tag, val_of, immediate, int_of, lone, spot, spot_of, addr_at, addr_spot, address_of, fetched, stepped, step_kinds, ty_var, ty_arith, ty_val, ty_int, ty_fetch, ty_step};
 ghost use Rattle.number.specs.Places.{index_in};
 ghost use Rattle.program.specs.Nodes.{arity};
 ghost use Rattle.coded.specs.Coded.{env_of};
 ghost use Rattle.typing.specs.Walk.{tag_only, form, found, found_at};
 ghost use Rattle.rules.specs.declared.Env.{Env};
 
-use number::Index;
 use rules::{Addr, Boxed, Entry, Env, Judged, Kind, Limits, Num, Offset, Op, Psi, Tag};
 
 // What a node's expression is judged as, and the node after it.
@@ -31,9 +30,9 @@ fn var_coded(size: &[u32; 6], vars: &[u32; 96], codes: &[u64; 96], count: usize,
     ensures { result ≡ ty_var (vars_from size.now vars.now) (env_of codes.now count) v }
 {
     if v < count {
-        Judged::Ok(program::kind_of(size, vars, v), coded::entry_in(codes, v))
+        Ok((program::kind_of(size, vars, v), coded::entry_in(codes, v)))
     } else {
-        Judged::No(4)
+        Err(4)
     }
 }
 
@@ -43,9 +42,9 @@ pub fn var_judged(size: &[u32; 6], vars: &[u32; 96], env: Env, v: usize) -> Judg
 {
     let n = env.count;
     if v < n {
-        Judged::Ok(program::kind_of(size, vars, v), entry::entry_at(env, v))
+        Ok((program::kind_of(size, vars, v), entry::entry_at(env, v)))
     } else {
-        Judged::No(4)
+        Err(4)
     }
 }
 
@@ -67,10 +66,10 @@ fn arith_kinds(op: Op, k: Kind, e: Entry, l: Kind, d: Entry) -> Judged
     let a = e.tag;
     let b = d.tag;
     match k {
-        Kind::Value(_) => Judged::No(6),
+        Kind::Value(_) => Err(6),
         Kind::Cint => match l {
-            Kind::Value(_) => Judged::No(6),
-            Kind::Cint => Judged::Ok(Kind::Cint, entry::int_entry(arith_tag(op, a, b))),
+            Kind::Value(_) => Err(6),
+            Kind::Cint => Ok((Kind::Cint, entry::int_entry(arith_tag(op, a, b)))),
         },
     }
 }
@@ -80,10 +79,10 @@ fn ty_arith(op: Op, x: Judged, y: Judged) -> Judged
     ensures { result ≡ ty_arith op x y }
 {
     match x {
-        Judged::No(n) => Judged::No(n),
-        Judged::Ok(k, e) => match y {
-            Judged::No(n) => Judged::No(n),
-            Judged::Ok(l, d) => arith_kinds(op, k, e, l, d),
+        Err(n) => Err(n),
+        Ok((k, e)) => match y {
+            Err(n) => Err(n),
+            Ok((l, d)) => arith_kinds(op, k, e, l, d),
         },
     }
 }
@@ -106,9 +105,9 @@ fn val_of(psi: Psi, r: usize, t: Tag) -> Judged
     ensures { result ≡ val_of psi r t }
 {
     if suits_tag(psi, t) {
-        Judged::Ok(Kind::Value(r), entry::imm_entry(t))
+        Ok((Kind::Value(r), entry::imm_entry(t)))
     } else {
-        Judged::No(9)
+        Err(9)
     }
 }
 
@@ -117,9 +116,9 @@ fn ty_val(size: &[u32; 6], rows: &[u32; 17536], r: usize, x: Judged) -> Judged
     ensures { result ≡ ty_val (rows_from size.now rows.now) r x }
 {
     match x {
-        Judged::No(n) => Judged::No(n),
-        Judged::Ok(k, e) => match k {
-            Kind::Value(_) => Judged::No(6),
+        Err(n) => Err(n),
+        Ok((k, e)) => match k {
+            Kind::Value(_) => Err(6),
             Kind::Cint => {
                 let t = e.tag;
                 val_of(program::psi_of(size, rows, r), r, t)
@@ -146,12 +145,12 @@ fn int_of(p: usize, e: Entry) -> Judged
     let t = e.tag;
     if is_immediate(b, p) {
         if entry::zero_offset(i) {
-            Judged::Ok(Kind::Cint, entry::int_entry(t))
+            Ok((Kind::Cint, entry::int_entry(t)))
         } else {
-            Judged::No(10)
+            Err(10)
         }
     } else {
-        Judged::No(7)
+        Err(7)
     }
 }
 
@@ -160,9 +159,9 @@ fn ty_int(size: &[u32; 6], rows: &[u32; 17536], x: Judged) -> Judged
     ensures { result ≡ ty_int (rows_from size.now rows.now) x }
 {
     match x {
-        Judged::No(n) => Judged::No(n),
-        Judged::Ok(k, e) => match k {
-            Kind::Cint => Judged::No(6),
+        Err(n) => Err(n),
+        Ok((k, e)) => match k {
+            Kind::Cint => Err(6),
             Kind::Value(r) => int_of(program::prods_of(size, rows, r), e),
         },
     }
@@ -181,7 +180,7 @@ fn is_lone(psi: Psi, p: usize) -> bool
 }
 
 // Where o plus m lands among n, over whole numbers. Here alone an amount is added to an offset.
-fn moved(o: Num, m: Num, n: usize) -> Index
+fn moved(o: Num, m: Num, n: usize) -> Option<usize>
     ensures { result ≡ index_in (o.n +ℤ m.n) n }
 {
     number::sum_in(o, m, n)
@@ -192,10 +191,10 @@ fn addr_at(size: &[u32; 6], rows: &[u32; 17536], r: usize, o: Num, t: Num, m: Nu
     ensures { result ≡ addr_at (rows_from size.now rows.now) r o t m }
 {
     match number::index_in(t, program::prods_of(size, rows, r)) {
-        Index::Outside => Addr::Bad(8),
-        Index::At(tag) => match moved(o, m, program::fields_of(size, rows, r, tag)) {
-            Index::Outside => Addr::Bad(8),
-            Index::At(k) => Addr::At(tag, k),
+        None => Err(8),
+        Some(tag) => match moved(o, m, program::fields_of(size, rows, r, tag)) {
+            None => Err(8),
+            Some(k) => Ok((tag, k)),
         },
     }
 }
@@ -205,7 +204,7 @@ fn spot_addr(size: &[u32; 6], rows: &[u32; 17536], r: usize, o: Num, t: Num, m: 
     ensures { result ≡ addr_spot (rows_from size.now rows.now) r (spot o t) m }
 {
     match m {
-        Tag::Unknown => Addr::Bad(7),
+        Tag::Unknown => Err(7),
         Tag::Known(n) => addr_at(size, rows, r, o, t, n),
     }
 }
@@ -223,9 +222,9 @@ fn block_addr(
     ensures { result ≡ addr_spot (rows_from size.now rows.now) r (spot_of (Boxed.Block) o t only) m }
 {
     match o {
-        Offset::Unknown => Addr::Bad(7),
+        Offset::Unknown => Err(7),
         Offset::Known(n) => match t {
-            Tag::Unknown => Addr::Bad(7),
+            Tag::Unknown => Err(7),
             Tag::Known(k) => spot_addr(size, rows, r, n, k, m),
         },
     }
@@ -244,16 +243,16 @@ fn either_addr(
     ensures { result ≡ addr_spot (rows_from size.now rows.now) r (spot_of (Boxed.Either) o t only) m }
 {
     match t {
-        Tag::Known(_) => Addr::Bad(7),
+        Tag::Known(_) => Err(7),
         Tag::Unknown => {
             if entry::zero_offset(o) {
                 if only {
                     spot_addr(size, rows, r, Num { n: 0 }, Num { n: 0 }, m)
                 } else {
-                    Addr::Bad(7)
+                    Err(7)
                 }
             } else {
-                Addr::Bad(7)
+                Err(7)
             }
         }
     }
@@ -273,7 +272,7 @@ pub fn address_of(size: &[u32; 6], rows: &[u32; 17536], r: usize, e: Entry, m: T
     match b {
         Boxed::Either => either_addr(size, rows, r, only, o, t, m),
         Boxed::Block => block_addr(size, rows, r, only, o, t, m),
-        Boxed::Imm => Addr::Bad(7),
+        Boxed::Imm => Err(7),
     }
 }
 
@@ -283,11 +282,9 @@ fn fetch_to(size: &[u32; 6], rows: &[u32; 17536], r: usize, a: Addr) -> Judged
     ensures { result ≡ fetched (rows_from size.now rows.now) r a }
 {
     match a {
-        Addr::Bad(n) => Judged::No(n),
-        Addr::At(t, o) => Judged::Ok(
-            Kind::Value(program::field_of(size, rows, r, t, o)),
-            Entry::LOOSEST,
-        ),
+        Err(n) => Err(n),
+        Ok((t, o)) => Ok((Kind::Value(program::field_of(size, rows, r, t, o)),
+            Entry::LOOSEST)),
     }
 }
 
@@ -296,9 +293,9 @@ fn ty_fetch(size: &[u32; 6], rows: &[u32; 17536], x: Judged) -> Judged
     ensures { result ≡ ty_fetch (rows_from size.now rows.now) x }
 {
     match x {
-        Judged::No(n) => Judged::No(n),
-        Judged::Ok(k, e) => match k {
-            Kind::Cint => Judged::No(6),
+        Err(n) => Err(n),
+        Ok((k, e)) => match k {
+            Kind::Cint => Err(6),
             Kind::Value(r) => fetch_to(
                 size,
                 rows,
@@ -326,8 +323,8 @@ fn step_to(size: &[u32; 6], rows: &[u32; 17536], r: usize, e: Entry, m: Tag) -> 
     ensures { result ≡ stepped r (address_of (rows_from size.now rows.now) r e m) }
 {
     match address_of(size, rows, r, e, m) {
-        Addr::Bad(n) => Judged::No(n),
-        Addr::At(t, o) => Judged::Ok(Kind::Value(r), block_entry(t, o)),
+        Err(n) => Err(n),
+        Ok((t, o)) => Ok((Kind::Value(r), block_entry(t, o))),
     }
 }
 
@@ -336,9 +333,9 @@ fn step_kinds(size: &[u32; 6], rows: &[u32; 17536], k: Kind, e: Entry, l: Kind, 
 {
     let m = d.tag;
     match k {
-        Kind::Cint => Judged::No(6),
+        Kind::Cint => Err(6),
         Kind::Value(r) => match l {
-            Kind::Value(_) => Judged::No(6),
+            Kind::Value(_) => Err(6),
             Kind::Cint => step_to(size, rows, r, e, m),
         },
     }
@@ -349,10 +346,10 @@ fn ty_step(size: &[u32; 6], rows: &[u32; 17536], x: Judged, y: Judged) -> Judged
     ensures { result ≡ ty_step (rows_from size.now rows.now) x y }
 {
     match x {
-        Judged::No(n) => Judged::No(n),
-        Judged::Ok(k, e) => match y {
-            Judged::No(n) => Judged::No(n),
-            Judged::Ok(l, d) => step_kinds(size, rows, k, e, l, d),
+        Err(n) => Err(n),
+        Ok((k, e)) => match y {
+            Err(n) => Err(n),
+            Ok((l, d)) => step_kinds(size, rows, k, e, l, d),
         },
     }
 }
@@ -372,25 +369,25 @@ fn leaf(
     a: u32,
 ) -> Judged
     requires { arity (form_of op) ≡ 0 }
-    ensures { (ρ : Rows) → result ≡ form ρ (vars_from size.now vars.now) (env_of codes.now count) (form_of op) a (Judged.No 4) (Judged.No 4) }
+    ensures { (ρ : Rows) → result ≡ form ρ (vars_from size.now vars.now) (env_of codes.now count) (form_of op) a (Err 4) (Err 4) }
 {
     match op {
-        1 => Judged::Ok(Kind::Cint, entry::int_entry(Tag::Known(number::number(a)))),
+        1 => Ok((Kind::Cint, entry::int_entry(Tag::Known(number::number(a))))),
         2 => var_coded(size, vars, codes, count, a as usize),
-        _ => Judged::No(4),
+        _ => Err(4),
     }
 }
 
 #[tactic(auto, using(program::proofs::Walk::one_rest), unfolding(rules::specs::View::form_of, crate::specs::Walk::form))]
 fn one_operand(size: &[u32; 6], rows: &[u32; 17536], op: u32, a: u32, x: Judged) -> Judged
     requires { arity (form_of op) ≡ 1 }
-    ensures { (D : List Var) (Γ : Env) → result ≡ form (rows_from size.now rows.now) D Γ (form_of op) a x (Judged.No 4) }
+    ensures { (D : List Var) (Γ : Env) → result ≡ form (rows_from size.now rows.now) D Γ (form_of op) a x (Err 4) }
 {
     match op {
         3 => ty_fetch(size, rows, x),
         4 => ty_int(size, rows, x),
         5 => ty_val(size, rows, a as usize, x),
-        _ => Judged::No(4),
+        _ => Err(4),
     }
 }
 
@@ -399,12 +396,12 @@ fn tag_only(x: Judged) -> Judged
     ensures { result ≡ tag_only x }
 {
     match x {
-        Judged::No(n) => Judged::No(n),
-        Judged::Ok(k, e) => {
+        Err(n) => Err(n),
+        Ok((k, e)) => {
             let t = e.tag;
             match k {
-                Kind::Value(_) => Judged::Ok(Kind::Value(0), entry::int_entry(t)),
-                Kind::Cint => Judged::Ok(Kind::Cint, entry::int_entry(t)),
+                Kind::Value(_) => Ok((Kind::Value(0), entry::int_entry(t))),
+                Kind::Cint => Ok((Kind::Cint, entry::int_entry(t))),
             }
         }
     }
@@ -422,7 +419,7 @@ fn two_ints(op: u32, x: Judged, y: Judged) -> Judged
         9 => ty_arith(Op::Mul, x, y),
         10 => ty_arith(Op::Eq, x, y),
         11 => ty_arith(Op::Lt, x, y),
-        _ => Judged::No(4),
+        _ => Err(4),
     }
 }
 
@@ -442,7 +439,7 @@ fn leaf_at(
     at: usize,
 ) -> Judged
     requires { arity (form_of (get_or nodes.now at 0 / 4294967296)) ≡ 0 }
-    ensures { (ρ : Rows) → result ≡ form ρ (vars_from size.now vars.now) (env_of codes.now count) (form_of (get_or nodes.now at 0 / 4294967296)) (get_or nodes.now at 0 % 4294967296) (Judged.No 4) (Judged.No 4) }
+    ensures { (ρ : Rows) → result ≡ form ρ (vars_from size.now vars.now) (env_of codes.now count) (form_of (get_or nodes.now at 0 / 4294967296)) (get_or nodes.now at 0 % 4294967296) (Err 4) (Err 4) }
 {
     let op = program::operation(nodes, at);
     let a = program::argument(nodes, at);
@@ -485,7 +482,7 @@ fn walk(
     ensures { result ≡ found_at (rows_from size.now rows.now) (vars_from size.now vars.now) (env_of codes.now count) nodes.now depth at }
 {
     if !program::is_within(depth, at) {
-        return gives(Judged::No(4), at);
+        return gives(Err(4), at);
     }
     let op = program::operation(nodes, at);
     let n = program::operands(op);

@@ -1,6 +1,6 @@
 -- An operand that is a number or a variable is evaluated where it stands; any other by its operation, over what its own operands give.
+use Rattle.std.specs.Prelude.{None}
 use Rattle.std.proofs.Common.{not, refl, sym, ap, ◌∙◌, arith}
-use Rattle.rules.specs.declared.Given.TheVariants.{Stuck}
 use Rattle.rules.specs.View.{form_of}
 use Rattle.rules.specs.Machine.{eval}
 use Rattle.program.specs.Nodes.{arity}
@@ -12,7 +12,7 @@ use Rattle.eval.proofs.+operand_walk.Goals as goal
 pub operand-returns-then-is_leaf : goal.operand-returns-then-is_leaf
 unfolding gave_at eval
 operand-returns-then-is_leaf t c R D =
-    ends_there (eval _ _ _) gave _ _ _ (form _ _ _) (folds _ _ _) c.is_leaf.ensures c.if-is_leaf.true Stuck Stuck c.gives.ensures (c.leaf_at-g.ensures _ _ D)
+    ends_there (eval _ _ _) gave _ _ _ (form _ _ _) (folds _ _ _) c.is_leaf.ensures c.if-is_leaf.true None None c.gives.ensures (c.leaf_at-g.ensures _ _ D)
 
 pub walk-returns-then-not-is_within : goal.walk-returns-then-not-is_within
 unfolding gave_at eval

@@ -14,14 +14,14 @@ returns-then-budget-steps c =
 pub apply-requires : goal.apply-requires
 apply-requires c =
     let a = c.args in
-    (omega arith, subst (λ (x : Act). Ready x a.at) (sym (c.decide_at-act.ensures [] [])) (ready a.size.now a.nodes.now a.labels.now a.body.now [] [] a.store.now a.heads.now a.cells.now a.vals.now _ a.at c.words.ensures c.words-in-Stuck.ensures))
+    (omega arith, subst (λ (x : Act). Ready x a.at) (sym (c.decide_at-act.ensures [] [])) (ready a.size.now a.nodes.now a.labels.now a.body.now [] [] a.store.now a.heads.now a.cells.now a.vals.now _ a.at c.words.ensures c.words-in-None.ensures))
 
-pub returns-in-Has : goal.returns-in-Has
-returns-in-Has c =
+pub returns-in-Some : goal.returns-in-Some
+returns-in-Some c =
     let a = c.args in
-    stands a.size.now a.nodes.now a.labels.now a.body.now a.store.now a.heads.now a.cells.now a.vals.now a.at a.steps a.value _ c.budget.ensures c.if-budget-steps.false _ _ c.datum_of-returned.ensures c.in-Has.is
+    stands a.size.now a.nodes.now a.labels.now a.body.now a.store.now a.heads.now a.cells.now a.vals.now a.at a.steps a.value _ c.budget.ensures c.if-budget-steps.false _ _ c.datum_of-returned.ensures c.in-Some.is
 
-pub returns-in-Stuck : goal.returns-in-Stuck
-returns-in-Stuck c =
+pub returns-in-None : goal.returns-in-None
+returns-in-None c =
     let a = c.args in
-    acts a.size.now a.nodes.now a.labels.now a.body.now a.store.now a.heads.now a.cells.now a.vals.now a.at a.steps a.value _ c.budget.ensures c.if-budget-steps.false _ c.datum_of-returned.ensures c.in-Stuck.is _ c.decide_at-act.ensures _ _ _ c.apply.ensures
+    acts a.size.now a.nodes.now a.labels.now a.body.now a.store.now a.heads.now a.cells.now a.vals.now a.at a.steps a.value _ c.budget.ensures c.if-budget-steps.false _ c.datum_of-returned.ensures c.in-None.is _ c.decide_at-act.ensures _ _ _ c.apply.ensures

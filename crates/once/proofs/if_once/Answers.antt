@@ -4,4 +4,4 @@ use Rattle.text.proofs.Laws.{got, plain_reads}
 use Rattle.once.proofs.if_once.Goals as goal
 
 pub overflow_cast-l : goal.overflow_cast-l
-overflow_cast-l c = omega (arith, got (plain_reads c.args.s.now c.args.at) (sym c.in-Got.ensures))
+overflow_cast-l c = omega (arith, got (plain_reads c.args.s.now c.args.at) (sym c.in-Ok.ensures))

@@ -4,4 +4,4 @@ use Rattle.text.proofs.Laws.{got, number_reads}
 use Rattle.once.proofs.put_rest.Goals as goal
 
 pub overflow_cast-w : goal.overflow_cast-w
-overflow_cast-w c = omega (arith, got (number_reads c.args.s.now c.args.n) (sym c.in-Got.ensures))
+overflow_cast-w c = omega (arith, got (number_reads c.args.s.now c.args.n) (sym c.in-Ok.ensures))

@@ -4,4 +4,4 @@ use Rattle.text.proofs.Laws.{got, var_reads}
 use Rattle.once.proofs.set_once.Goals as goal
 
 pub overflow_cast-v : goal.overflow_cast-v
-overflow_cast-v c = omega (arith, got (var_reads c.args.s.now c.args.at) (sym c.in-Got.ensures))
+overflow_cast-v c = omega (arith, got (var_reads c.args.s.now c.args.at) (sym c.in-Ok.ensures))

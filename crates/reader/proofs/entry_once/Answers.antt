@@ -6,4 +6,4 @@ use Rattle.reader.proofs.entry_once.Goals as goal
 
 pub returns-else-byte_at-ne44 : goal.returns-else-byte_at-ne44
 unfolding entry_once
-returns-else-byte_at-ne44 c = mark c.args.s.now 44 _ _ c.boxed_at.ensures c.in-Got.is (sym c.byte_at.ensures ∙ c.if-byte_at-ne44.false) c.offset_once.ensures
+returns-else-byte_at-ne44 c = mark c.args.s.now 44 _ _ c.boxed_at.ensures c.in-Ok.is (sym c.byte_at.ensures ∙ c.if-byte_at-ne44.false) c.offset_once.ensures

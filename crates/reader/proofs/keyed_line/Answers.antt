@@ -16,5 +16,5 @@ returns-then-has_expr c = let a = c.args in λ Z. c.expr_line.ensures (tables_of
 pub returns-then-k-eq13 : goal.returns-then-k-eq13
 returns-then-k-eq13 c = let a = c.args in λ Z. c.label_line.ensures (tables_of Z a.nodes.now a.rows.now a.vars.now a.labels.now a.body.now) ∙ ap (λ (n : ℕ). settled (shaped a.s.now n a.at a.c (tables_of Z a.nodes.now a.rows.now a.vars.now a.labels.now a.body.now) (line_shape a.s.now a.c.vars (key_of n) a.at))) (sym c.if-k-eq13.true) ∙ sym (ap settled (ordered a.s.now a.at a.c (tables_of Z a.nodes.now a.rows.now a.vars.now a.labels.now a.body.now) a.k a.start (sym c.in_order.ensures ∙ c.if-not-in_order.false) refl))
 
-pub returns-in-Bad : goal.returns-in-Bad
-returns-in-Bad c = let a = c.args in λ Z. ap settled (c.refused-in-Bad.ensures (tables_of Z a.nodes.now a.rows.now a.vars.now a.labels.now a.body.now) ∙ sym (ordered a.s.now a.at a.c (tables_of Z a.nodes.now a.rows.now a.vars.now a.labels.now a.body.now) a.k a.start (sym c.in_order.ensures ∙ c.if-not-in_order.false) (sym c.in-Bad.is ∙ c.line_shape-x.ensures)))
+pub returns-in-Err : goal.returns-in-Err
+returns-in-Err c = let a = c.args in λ Z. ap settled (c.refused-in-Err.ensures (tables_of Z a.nodes.now a.rows.now a.vars.now a.labels.now a.body.now) ∙ sym (ordered a.s.now a.at a.c (tables_of Z a.nodes.now a.rows.now a.vars.now a.labels.now a.body.now) a.k a.start (sym c.in_order.ensures ∙ c.if-not-in_order.false) (sym c.in-Err.is ∙ c.line_shape-x.ensures)))

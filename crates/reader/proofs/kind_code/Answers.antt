@@ -5,10 +5,10 @@ use Rattle.reader.proofs.Laws.{kind_near, kind_value_lem}
 use Rattle.reader.proofs.kind_code.Goals as goal
 
 pub plain_word-w-requires : goal.plain_word-w-requires
-plain_word-w-requires c = record { near = omega (arith, kind_near c.args.s.now c.args.at c.requires c.in-Got.ensures); short = c.requires.short }
+plain_word-w-requires c = record { near = omega (arith, kind_near c.args.s.now c.args.at c.requires c.in-Ok.ensures); short = c.requires.short }
 
-pub overflow_add-result-in-Got : goal.overflow_add-result-in-Got
-overflow_add-result-in-Got c = omega (arith, value_most (plain_reads c.args.s.now c.in-Got.n), c.plain_word-w.ensures.gives)
+pub overflow_add-result-in-Ok : goal.overflow_add-result-in-Ok
+overflow_add-result-in-Ok c = omega (arith, value_most (plain_reads c.args.s.now c.in-Ok.n), c.plain_word-w.ensures.gives)
 
 pub returns-else-which-eq0 : goal.returns-else-which-eq0
-returns-else-which-eq0 c = kind_value_lem c.args.s.now c.args.at c.in-Got.which c.in-Got.n c.in-Got.ensures c.if-which-eq0.false c.plain_word-w.ensures
+returns-else-which-eq0 c = kind_value_lem c.args.s.now c.args.at c.in-Ok.which c.in-Ok.n c.in-Ok.ensures c.if-which-eq0.false c.plain_word-w.ensures

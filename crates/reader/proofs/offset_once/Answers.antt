@@ -6,4 +6,4 @@ use Rattle.reader.proofs.offset_once.Goals as goal
 
 pub returns-else-byte_at-ne44 : goal.returns-else-byte_at-ne44
 unfolding offset_once
-returns-else-byte_at-ne44 c = mark c.args.s.now 44 _ _ c.offset_at.ensures c.in-Got.is (sym c.byte_at.ensures ∙ c.if-byte_at-ne44.false) c.tag_once.ensures
+returns-else-byte_at-ne44 c = mark c.args.s.now 44 _ _ c.offset_at.ensures c.in-Ok.is (sym c.byte_at.ensures ∙ c.if-byte_at-ne44.false) c.tag_once.ensures

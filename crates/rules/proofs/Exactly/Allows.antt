@@ -4,11 +4,12 @@ use Rattle.std.proofs.Common.{ltb→lt, arith as lin}
 use Rattle.std.proofs.Math.IntN.{+ℤ_idr}
 use borrow.Author.Tests.{lt-ltb}
 use Rattle.std.specs.Prelude.{◌<◌, ◌&&◌, ◌≡◌, ◌↔◌}
-use Rattle.rules.specs.Prelude.{ℕ, Bool, true, refl, sym, ap, subst, ◌∙◌, ltb, ℤ, pos, negsuc, length, Num, Boxed, Tag, Entry, Env, Kind, Cint, Value, Judged, No, Ok, Addr, Line}
+use Rattle.rules.specs.Typing.{Judged}
+use Rattle.rules.specs.Typing.{Addr}
+use Rattle.rules.specs.Prelude.{ℕ, Bool, true, refl, sym, ap, subst, ◌∙◌, ltb, ℤ, pos, negsuc, length, Num, Boxed, Tag, Entry, Env, Kind, Cint, Value, Err, Ok, Line}
 use Rattle.rules.specs.Prelude.B
 use Rattle.rules.specs.Prelude.I
 use Rattle.rules.specs.Prelude.G
-use Rattle.rules.specs.Prelude.A
 use Rattle.rules.specs.When.{need}
 use Rattle.rules.specs.Numbers.{num, zero_n, among, suits}
 use Rattle.rules.specs.Program.{Expr, var, Stmt, bad_s, set_s, put_s, goto_s, if_s, ifimm_s, iftag_s, ifint_s, return_s, label_s, Prog, entry, zero_i, loosest, is_zero, psi_of, prods_of, field_of, agree, same_kind, kind_at}
@@ -50,23 +51,23 @@ module _ (P : Prog) (Γ : Env) where
 
   permits_set : (v : ℕ) (x : Expr) (j : Judged) → Derives P.rows P.vars Γ x j → Permits P Γ (set_s v x) (rule_set P.vars v j Γ)
   unfolding rule_set
-  permits_set v x (No n) p = refusing n p
-  permits_set v x (Ok k e) p = needing 6 (omega lin) (same_kind k (kind_at P.vars v)) _ (λ h z. vset_stmt p h)
+  permits_set v x (Err n) p = refusing n p
+  permits_set v x (Ok (k, e)) p = needing 6 (omega lin) (same_kind k (kind_at P.vars v)) _ (λ h z. vset_stmt p h)
 
   permits_put_at : (x y : Expr) (n : Num) (r : ℕ) (e d : Entry) (l : Kind) → Judges P.rows P.vars Γ x (Value r) e → Judges P.rows P.vars Γ y l d
       → (a : Addr) → Finds P.rows r e (G.Known n) a → Permits P Γ (put_s x n y) (put_at P.rows r l d a Γ)
-  permits_put_at x y n r e d l p q (A.Bad m) h = refusing m h
-  permits_put_at x y n r e d Cint p q (A.At t k) h = refusing 6 (omega lin)
-  permits_put_at x y n r e d (Value s) p q (A.At t k) h =
+  permits_put_at x y n r e d l p q (Err m) h = refusing m h
+  permits_put_at x y n r e d Cint p q (Ok (t, k)) h = refusing 6 (omega lin)
+  permits_put_at x y n r e d (Value s) p q (Ok (t, k)) h =
       needing 6 (omega lin) (agree s (field_of P.rows r t k)) _
       (λ g. needing 10 (omega lin) (is_zero d.offset) _ (λ i z. lset_stmt (stored P.rows P.vars Γ p h) (rw (known_parts d refl (offset_is_zero d.offset i)) at q) g))
 
   permits_put : (x y : Expr) (n : Num) (i j : Judged) → Derives P.rows P.vars Γ x i → Derives P.rows P.vars Γ y j → Permits P Γ (put_s x n y) (rule_put P.rows n i j Γ)
   unfolding rule_put
-  permits_put x y n (No m) j p q = refusing m p
-  permits_put x y n (Ok k e) (No m) p q = refusing m q
-  permits_put x y n (Ok Cint e) (Ok l d) p q = refusing 6 (omega lin)
-  permits_put x y n (Ok (Value r) e) (Ok l d) p q = permits_put_at x y n r e d l p q (address_of P.rows r e (G.Known n)) (finds P.rows r e.boxed e.offset e.tag (G.Known n))
+  permits_put x y n (Err m) j p q = refusing m p
+  permits_put x y n (Ok (k, e)) (Err m) p q = refusing m q
+  permits_put x y n (Ok (Cint, e)) (Ok (l, d)) p q = refusing 6 (omega lin)
+  permits_put x y n (Ok (Value r, e)) (Ok (l, d)) p q = permits_put_at x y n r e d l p q (address_of P.rows r e (G.Known n)) (finds P.rows r e.boxed e.offset e.tag (G.Known n))
 
   permits_goto : (l : ℕ) → Permits P Γ (goto_s l) (rule_goto P.labels l Γ)
   unfolding rule_goto
@@ -74,23 +75,23 @@ module _ (P : Prog) (Γ : Env) where
 
   permits_if : (l : ℕ) (x : Expr) (j : Judged) → Derives P.rows P.vars Γ x j → Permits P Γ (if_s l x) (rule_if P.labels l j Γ)
   unfolding rule_if
-  permits_if l x (No n) p = refusing n p
-  permits_if l x (Ok (Value r) e) p = refusing 6 (omega lin)
-  permits_if l x (Ok Cint e) p = jumping l Γ _ (λ j z. if_stmt p j)
+  permits_if l x (Err n) p = refusing n p
+  permits_if l x (Ok (Value r, e)) p = refusing 6 (omega lin)
+  permits_if l x (Ok (Cint, e)) p = jumping l Γ _ (λ j z. if_stmt p j)
 
   permits_ifimm : (l v : ℕ) (j : Judged) → Derives P.rows P.vars Γ (var v) j → Permits P Γ (ifimm_s l v) (rule_ifimm P.labels l v j Γ)
   unfolding rule_ifimm
-  permits_ifimm l v (No n) p = refusing n p
-  permits_ifimm l v (Ok Cint e) p = refusing 6 (omega lin)
-  permits_ifimm l v (Ok (Value r) e) p =
+  permits_ifimm l v (Err n) p = refusing n p
+  permits_ifimm l v (Ok (Cint, e)) p = refusing 6 (omega lin)
+  permits_ifimm l v (Ok (Value r, e)) p =
       needing 10 (omega lin) (is_zero e.offset) _
       (λ h. let i : e.offset ≡ zero_i = offset_is_zero e.offset h in rw i (jumping l _ _ (λ j z. if_unboxed_stmt (rw (known_parts e refl i) at p) j)))
 
   permits_iftag : (l v : ℕ) (n : Num) (j : Judged) → Derives P.rows P.vars Γ (var v) j → Permits P Γ (iftag_s l v n) (rule_iftag P.rows P.labels l v n j Γ)
   unfolding rule_iftag
-  permits_iftag l v n (No m) p = refusing m p
-  permits_iftag l v n (Ok Cint e) p = refusing 6 (omega lin)
-  permits_iftag l v n (Ok (Value r) e) p =
+  permits_iftag l v n (Err m) p = refusing m p
+  permits_iftag l v n (Ok (Cint, e)) p = refusing 6 (omega lin)
+  permits_iftag l v n (Ok (Value r, e)) p =
       needing 10 (omega lin) (is_zero e.offset) _
       (λ h. needing 7 (omega lin) (is_box e.boxed) _
       (λ g. let i : e.offset ≡ zero_i = offset_is_zero e.offset h in
@@ -104,9 +105,9 @@ module _ (P : Prog) (Γ : Env) where
 
   permits_ifint : (l v : ℕ) (n : Num) (j : Judged) → Derives P.rows P.vars Γ (var v) j → Permits P Γ (ifint_s l v n) (rule_ifint P.rows P.labels l v n j Γ)
   unfolding rule_ifint
-  permits_ifint l v n (No m) p = refusing m p
-  permits_ifint l v n (Ok Cint e) p = refusing 6 (omega lin)
-  permits_ifint l v n (Ok (Value r) e) p =
+  permits_ifint l v n (Err m) p = refusing m p
+  permits_ifint l v n (Ok (Cint, e)) p = refusing 6 (omega lin)
+  permits_ifint l v n (Ok (Value r, e)) p =
       needing 10 (omega lin) (is_zero e.offset) _
       (λ h. needing 7 (omega lin) (is_imm e.boxed) _
       (λ g. let i : e.offset ≡ zero_i = offset_is_zero e.offset h in
@@ -115,8 +116,8 @@ module _ (P : Prog) (Γ : Env) where
 
   permits_return : (x : Expr) (j : Judged) → Derives P.rows P.vars Γ x j → Permits P Γ (return_s x) (rule_return P.ret j Γ)
   unfolding rule_return
-  permits_return x (No n) p = refusing n p
-  permits_return x (Ok k e) p =
+  permits_return x (Err n) p = refusing n p
+  permits_return x (Ok (k, e)) p =
       needing 6 (omega lin) (same_kind k P.ret) _
       (λ g. needing 10 (omega lin) (is_zero e.offset) _ (λ h z. ret_stmt (rw (known_parts e refl (offset_is_zero e.offset h)) at p) g))
 
@@ -139,22 +140,28 @@ module _ (P : Prog) (Γ : Env) where
 
 -- ---- statements: what is allowed is accepted, and what follows is the same
 
+-- the row of a value that is judged right
+abbrev row_judged : Judged → ℕ
+row_judged (Ok (Value q, e)) = q
+row_judged (Ok (Cint, e)) = 0
+row_judged (Err n) = 0
+
 module _ (P : Prog) (Γ : Env) where
   jumped : {l : ℕ} {Δ : Env} (x : Line) → Jumps P l Δ → jump P.labels l Δ Γ x ≡ x
   jumped {l} {Δ} x j = rw (lt-ltb l (length P.labels) j.there, held (covers P.labels l Δ) j.covered)
 
   -- *(e₁ +ₚ n) judged, and E of the row that it gives: `put` finds the same field
-  put_passes : (n : Num) (q r : ℕ) (b : Boxed) (t : Tag) (j : Judged) → ty_fetch P.rows (ty_step P.rows j (Ok Cint (int_entry (G.Known n)))) ≡ Ok (Value q) loosest → T (agree r q) → rule_put P.rows n j (Ok (Value r) (entry b zero_i t)) Γ ≡ goes true Γ
+  put_passes : (n : Num) (q r : ℕ) (b : Boxed) (t : Tag) (j : Judged) → ty_fetch P.rows (ty_step P.rows j (Ok (Cint, int_entry (G.Known n)))) ≡ Ok (Value q, loosest) → T (agree r q) → rule_put P.rows n j (Ok (Value r, entry b zero_i t)) Γ ≡ goes true Γ
   unfolding rule_put ty_fetch ty_step
-  put_passes n q r b t (No m) h g = let z : ◌≡◌ {A = ℕ} 0 1 = cc in absurd (omega lin)
-  put_passes n q r b t (Ok Cint e) h g = let z : ◌≡◌ {A = ℕ} 0 1 = cc in absurd (omega lin)
-  put_passes n q r b t (Ok (Value s) e) h g = at (address_of P.rows s e (G.Known n)) (finds P.rows s e.boxed e.offset e.tag (G.Known n)) h
+  put_passes n q r b t (Err m) h g = let z : ◌≡◌ {A = ℕ} 0 1 = cc in absurd (omega lin)
+  put_passes n q r b t (Ok (Cint, e)) h g = let z : ◌≡◌ {A = ℕ} 0 1 = cc in absurd (omega lin)
+  put_passes n q r b t (Ok (Value s, e)) h g = at (address_of P.rows s e (G.Known n)) (finds P.rows s e.boxed e.offset e.tag (G.Known n)) h
     where
-      at : (a : Addr) → Finds P.rows s e (G.Known n) a → ty_fetch P.rows (stepped s a) ≡ Ok (Value q) loosest → put_at P.rows s (Value r) (entry b zero_i t) a Γ ≡ goes true Γ
-      at (A.Bad m) f w = let z : ◌≡◌ {A = ℕ} 0 1 = cc in absurd (omega lin)
-      at (A.At u k) f w =
-          let v : address_of P.rows s (entry B.Block (I.Known (num (pos k))) (G.Known (num (pos u)))) (G.Known zero_n) ≡ A.At u k = found P.rows s (known (num (pos k)) zero_n (inside P.rows s f).0 (+ℤ_idr (pos k)) (inside P.rows s f).1) in
-          let c : field_of P.rows s u k ≡ q = cc (ap (fetched P.rows s) v) in
+      at : (a : Addr) → Finds P.rows s e (G.Known n) a → ty_fetch P.rows (stepped s a) ≡ Ok (Value q, loosest) → put_at P.rows s (Value r) (entry b zero_i t) a Γ ≡ goes true Γ
+      at (Err m) f w = let z : ◌≡◌ {A = ℕ} 0 1 = cc in absurd (omega lin)
+      at (Ok (u, k)) f w =
+          let v : address_of P.rows s (entry B.Block (I.Known (num (pos k))) (G.Known (num (pos u)))) (G.Known zero_n) ≡ Ok (u, k) = found P.rows s (known (num (pos k)) zero_n (inside P.rows s f).0 (+ℤ_idr (pos k)) (inside P.rows s f).1) in
+          let c : field_of P.rows s u k ≡ q = ap row_judged (sym (ap (fetched P.rows s) v) ∙ w) in
           rw (c, held (agree r q) g)
 
   passes_line : {s : Stmt} {b : Bool} {Δ : Env} → Allows P Γ s b Δ → line_of P true Γ s ≡ goes b Δ

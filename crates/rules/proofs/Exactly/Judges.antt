@@ -4,11 +4,12 @@ use Rattle.std.proofs.Common.{ltb→lt, eqb→eq, lt-ltb}
 use Rattle.std.proofs.Math.IntN.{+ℤ_idl, +ℤ_idr}
 use native.Mathlib.Omega.{arith as lin}
 use Rattle.std.specs.Prelude.{◌+◌, ◌<◌, ◌&&◌, ◌≡◌, ◌↔◌, ◌+ℤ◌}
-use Rattle.rules.specs.Prelude.{ℕ, true, List, refl, ap, ap₂, subst, ltb, eqb, ℤ, pos, negsuc, Num, Boxed, Offset, Tag, Entry, Env, Kind, Cint, Value, Psi, Inf, Upto, Op, Judged, No, Ok, Addr}
+use Rattle.rules.specs.Typing.{Judged}
+use Rattle.rules.specs.Typing.{Addr}
+use Rattle.rules.specs.Prelude.{ℕ, true, List, refl, ap, ap₂, subst, ltb, eqb, ℤ, pos, negsuc, Num, Boxed, Offset, Tag, Entry, Env, Kind, Cint, Value, Psi, Inf, Upto, Op, Err, Ok}
 use Rattle.rules.specs.Prelude.B
 use Rattle.rules.specs.Prelude.I
 use Rattle.rules.specs.Prelude.G
-use Rattle.rules.specs.Prelude.A
 use Rattle.rules.specs.When.{need}
 use Rattle.rules.specs.Numbers.{zero_n, num, among, suits, nat_of}
 use Rattle.rules.specs.Program.{Rows, Var, Expr, bad, lit, var, arith, val, int, fetch, step, entry, zero_i, loosest, is_zero, psi_of, prods_of, fields_of, field_of}
@@ -60,11 +61,11 @@ pub data Addresses (ρ : Rows) (r : ℕ) : Entry → Tag → ℕ → ℕ → Typ
 
 -- a property of the answer, so that no equation with it is ever inverted; a refusal's number is not 0
 abbrev pub Finds : Rows → ℕ → Entry → Tag → Addr → Type 0
-Finds ρ r e m (A.Bad n) = 0 < n
-Finds ρ r e m (A.At t k) = Addresses ρ r e m t k
+Finds ρ r e m (Err n) = 0 < n
+Finds ρ r e m (Ok (t, k)) = Addresses ρ r e m t k
 
 module _ (ρ : Rows) (r : ℕ) where
-  pub found : {e : Entry} {m : Tag} {t k : ℕ} → Addresses ρ r e m t k → address_of ρ r e m ≡ A.At t k
+  pub found : {e : Entry} {m : Tag} {t k : ℕ} → Addresses ρ r e m t k → address_of ρ r e m ≡ Ok (t, k)
   found (known n m {t} {k} h s g) = rw (lt-ltb t (prods_of ρ r) h, s, lt-ltb k (fields_of ρ r t) g)
   found (alone {k} a b g) = let z : 0 + k ≡ k = omega lin in rw (a, b, b, z, lt-ltb k (fields_of ρ r 0) g)
 
@@ -73,13 +74,13 @@ module _ (ρ : Rows) (r : ℕ) where
   inside (alone a b g) = (omega lin, g)
 
   -- what holds of the refusal, and of each tag and offset inside the row, holds of an address
-  in_row : (Q : Addr → Type 0) → Q (A.Bad 8) → (t k : ℤ) → ((u j : ℕ) → t ≡ pos u → u < prods_of ρ r → k ≡ pos j → j < fields_of ρ r u → Q (A.At u j))
-      → Q (need (A.Bad 8) (among t (prods_of ρ r)) (need (A.Bad 8) (among k (fields_of ρ r (nat_of t))) (A.At (nat_of t) (nat_of k))))
+  in_row : (Q : Addr → Type 0) → Q (Err 8) → (t k : ℤ) → ((u j : ℕ) → t ≡ pos u → u < prods_of ρ r → k ≡ pos j → j < fields_of ρ r u → Q (Ok (u, j)))
+      → Q (need (Err 8) (among t (prods_of ρ r)) (need (Err 8) (among k (fields_of ρ r (nat_of t))) (Ok (nat_of t, nat_of k))))
   in_row Q b (negsuc t) k f = b
-  in_row Q b (pos t) (negsuc k) f = by_need Q (A.Bad 8) (ltb t (prods_of ρ r)) _ b (λ h. b)
+  in_row Q b (pos t) (negsuc k) f = by_need Q (Err 8) (ltb t (prods_of ρ r)) _ b (λ h. b)
   in_row Q b (pos t) (pos k) f =
-      by_need Q (A.Bad 8) (ltb t (prods_of ρ r)) _ b
-      (λ h. by_need Q (A.Bad 8) (ltb k (fields_of ρ r t)) _ b (λ g. f t k refl (ltb→lt t (prods_of ρ r) h) refl (ltb→lt k (fields_of ρ r t) g)))
+      by_need Q (Err 8) (ltb t (prods_of ρ r)) _ b
+      (λ h. by_need Q (Err 8) (ltb k (fields_of ρ r t)) _ b (λ g. f t k refl (ltb→lt t (prods_of ρ r) h) refl (ltb→lt k (fields_of ρ r t) g)))
 
   finds_alone : (m : Tag) → psi_of ρ r ≡ Upto 0 → prods_of ρ r ≡ 1 → Finds ρ r loosest m (addr_spot ρ r (spot zero_n zero_n) m)
   finds_alone G.Unknown a b = omega lin
@@ -103,7 +104,7 @@ module _ (ρ : Rows) (r : ℕ) where
 -- ---- expressions: what is derived is accepted, with that kind and entry
 
 module _ (ρ : Rows) (D : List Var) (Γ : Env) where
-  pub judged : {x : Expr} {k : Kind} {e : Entry} → Judges ρ D Γ x k e → type ρ D Γ x ≡ Ok k e
+  pub judged : {x : Expr} {k : Kind} {e : Entry} → Judges ρ D Γ x k e → type ρ D Γ x ≡ Ok (k, e)
   unfolding type ty_var ty_arith ty_val ty_int ty_fetch ty_step
   judged int_exp = refl
   judged (var_exp {v} h) = rw (lt-ltb v Γ.count h)
@@ -119,40 +120,40 @@ module _ (ρ : Rows) (D : List Var) (Γ : Env) where
 -- ---- expressions: what is accepted is derived, and a refusal's number is not 0
 
 abbrev pub Derives : Rows → List Var → Env → Expr → Judged → Type 0
-Derives ρ D Γ x (No n) = 0 < n
-Derives ρ D Γ x (Ok k e) = Judges ρ D Γ x k e
+Derives ρ D Γ x (Err n) = 0 < n
+Derives ρ D Γ x (Ok (k, e)) = Judges ρ D Γ x k e
 
 module _ (ρ : Rows) (D : List Var) (Γ : Env) where
   derives_var : (v : ℕ) → Derives ρ D Γ (var v) (ty_var D Γ v)
   unfolding ty_var
-  derives_var v = by_need (Derives ρ D Γ (var v)) (No 4) (ltb v Γ.count) _ (omega lin) (λ h. var_exp (ltb→lt v Γ.count h))
+  derives_var v = by_need (Derives ρ D Γ (var v)) (Err 4) (ltb v Γ.count) _ (omega lin) (λ h. var_exp (ltb→lt v Γ.count h))
 
   derives_arith : (o : Op) (x y : Expr) (a b : Judged) → Derives ρ D Γ x a → Derives ρ D Γ y b → Derives ρ D Γ (arith o x y) (ty_arith o a b)
   unfolding ty_arith
-  derives_arith o x y (No n) b p q = p
-  derives_arith o x y (Ok k e) (No n) p q = q
-  derives_arith o x y (Ok (Value r) e) (Ok l d) p q = omega lin
-  derives_arith o x y (Ok Cint e) (Ok (Value r) d) p q = omega lin
-  derives_arith o x y (Ok Cint e) (Ok Cint d) p q = aop_exp p q (works o e.tag d.tag)
+  derives_arith o x y (Err n) b p q = p
+  derives_arith o x y (Ok (k, e)) (Err n) p q = q
+  derives_arith o x y (Ok (Value r, e)) (Ok (l, d)) p q = omega lin
+  derives_arith o x y (Ok (Cint, e)) (Ok (Value r, d)) p q = omega lin
+  derives_arith o x y (Ok (Cint, e)) (Ok (Cint, d)) p q = aop_exp p q (works o e.tag d.tag)
 
   derives_val : (r : ℕ) (x : Expr) (a : Judged) → Derives ρ D Γ x a → Derives ρ D Γ (val r x) (ty_val ρ r a)
   unfolding ty_val
-  derives_val r x (No n) p = p
-  derives_val r x (Ok (Value q) e) p = omega lin
-  derives_val r x (Ok Cint e) p = by_need (Derives ρ D Γ (val r x)) (No 9) (suits_tag (psi_of ρ r) e.tag) _ (omega lin) (λ h. val_int_exp p (is_constant (psi_of ρ r) e.tag h))
+  derives_val r x (Err n) p = p
+  derives_val r x (Ok (Value q, e)) p = omega lin
+  derives_val r x (Ok (Cint, e)) p = by_need (Derives ρ D Γ (val r x)) (Err 9) (suits_tag (psi_of ρ r) e.tag) _ (omega lin) (λ h. val_int_exp p (is_constant (psi_of ρ r) e.tag h))
 
   derives_int_of : (x : Expr) (r : ℕ) (b : Boxed) (i : Offset) (t : Tag) → Judges ρ D Γ x (Value r) (entry b i t) → Derives ρ D Γ (int x) (int_of (prods_of ρ r) (entry b i t))
   derives_int_of x r B.Block i t p = omega lin
-  derives_int_of x r B.Imm i t p = by_need (Derives ρ D Γ (int x)) (No 10) (is_zero i) _ (omega lin) (λ h. int_val_exp (rw (offset_is_zero i h) at p))
+  derives_int_of x r B.Imm i t p = by_need (Derives ρ D Γ (int x)) (Err 10) (is_zero i) _ (omega lin) (λ h. int_val_exp (rw (offset_is_zero i h) at p))
   derives_int_of x r B.Either i t p =
-      by_need (Derives ρ D Γ (int x)) (No 7) (eqb (prods_of ρ r) 0) _ (omega lin)
-      (λ g. by_need (Derives ρ D Γ (int x)) (No 10) (is_zero i) _ (omega lin) (λ h. int_val_unboxed_exp (rw (offset_is_zero i h) at p) (eqb→eq (prods_of ρ r) 0 g)))
+      by_need (Derives ρ D Γ (int x)) (Err 7) (eqb (prods_of ρ r) 0) _ (omega lin)
+      (λ g. by_need (Derives ρ D Γ (int x)) (Err 10) (is_zero i) _ (omega lin) (λ h. int_val_unboxed_exp (rw (offset_is_zero i h) at p) (eqb→eq (prods_of ρ r) 0 g)))
 
   derives_int : (x : Expr) (a : Judged) → Derives ρ D Γ x a → Derives ρ D Γ (int x) (ty_int ρ a)
   unfolding ty_int
-  derives_int x (No n) p = p
-  derives_int x (Ok Cint e) p = omega lin
-  derives_int x (Ok (Value r) e) p = derives_int_of x r e.boxed e.offset e.tag p
+  derives_int x (Err n) p = p
+  derives_int x (Ok (Cint, e)) p = omega lin
+  derives_int x (Ok (Value r, e)) p = derives_int_of x r e.boxed e.offset e.tag p
 
   fetches : {x : Expr} {r t k : ℕ} {e : Entry} → Judges ρ D Γ x (Value r) e → Addresses ρ r e (G.Known zero_n) t k → Judges ρ D Γ (fetch x) (Value (field_of ρ r t k)) loosest
   fetches p (known n m {k = k} h s g) =
@@ -170,25 +171,25 @@ module _ (ρ : Rows) (D : List Var) (Γ : Env) where
 
   derives_fetch : (x : Expr) (a : Judged) → Derives ρ D Γ x a → Derives ρ D Γ (fetch x) (ty_fetch ρ a)
   unfolding ty_fetch
-  derives_fetch x (No n) p = p
-  derives_fetch x (Ok Cint e) p = omega lin
-  derives_fetch x (Ok (Value r) e) p = go (address_of ρ r e (G.Known zero_n)) (finds ρ r e.boxed e.offset e.tag (G.Known zero_n))
+  derives_fetch x (Err n) p = p
+  derives_fetch x (Ok (Cint, e)) p = omega lin
+  derives_fetch x (Ok (Value r, e)) p = go (address_of ρ r e (G.Known zero_n)) (finds ρ r e.boxed e.offset e.tag (G.Known zero_n))
     where
       go : (a : Addr) → Finds ρ r e (G.Known zero_n) a → Derives ρ D Γ (fetch x) (fetched ρ r a)
-      go (A.Bad n) h = h
-      go (A.At t k) h = fetches p h
+      go (Err n) h = h
+      go (Ok (t, k)) h = fetches p h
 
   derives_step : (x y : Expr) (a b : Judged) → Derives ρ D Γ x a → Derives ρ D Γ y b → Derives ρ D Γ (step x y) (ty_step ρ a b)
   unfolding ty_step
-  derives_step x y (No n) b p q = p
-  derives_step x y (Ok k e) (No n) p q = q
-  derives_step x y (Ok Cint e) (Ok l d) p q = omega lin
-  derives_step x y (Ok (Value r) e) (Ok (Value s) d) p q = omega lin
-  derives_step x y (Ok (Value r) e) (Ok Cint d) p q = go (address_of ρ r e d.tag) (finds ρ r e.boxed e.offset e.tag d.tag)
+  derives_step x y (Err n) b p q = p
+  derives_step x y (Ok (k, e)) (Err n) p q = q
+  derives_step x y (Ok (Cint, e)) (Ok (l, d)) p q = omega lin
+  derives_step x y (Ok (Value r, e)) (Ok (Value s, d)) p q = omega lin
+  derives_step x y (Ok (Value r, e)) (Ok (Cint, d)) p q = go (address_of ρ r e d.tag) (finds ρ r e.boxed e.offset e.tag d.tag)
     where
       go : (a : Addr) → Finds ρ r e d.tag a → Derives ρ D Γ (step x y) (stepped r a)
-      go (A.Bad n) h = h
-      go (A.At t k) h = steps p q refl h
+      go (Err n) h = h
+      go (Ok (t, k)) h = steps p q refl h
 
   pub derives : (x : Expr) → Derives ρ D Γ x (type ρ D Γ x)
   unfolding type
@@ -202,5 +203,5 @@ module _ (ρ : Rows) (D : List Var) (Γ : Env) where
   derives (step x y) = derives_step x y (type ρ D Γ x) (type ρ D Γ y) (derives x) (derives y)
 
 -- an expression is accepted, with a kind and an entry, exactly if the rules derive that
-pub expression_exactly : (ρ : Rows) (D : List Var) (Γ : Env) (x : Expr) (k : Kind) (e : Entry) → (type ρ D Γ x ≡ Ok k e) ↔ Judges ρ D Γ x k e
+pub expression_exactly : (ρ : Rows) (D : List Var) (Γ : Env) (x : Expr) (k : Kind) (e : Entry) → (type ρ D Γ x ≡ Ok (k, e)) ↔ Judges ρ D Γ x k e
 expression_exactly ρ D Γ x k e = ((λ h. subst (λ (j : Judged). Derives ρ D Γ x j) h (derives ρ D Γ x)), judged ρ D Γ)

@@ -5,7 +5,8 @@ use Rattle.std.specs.Int.{w32}
 use Rattle.std.proofs.Common.{of_z, SFits, mod-lt, mod-eq_of_lt, arith as lin, ne_eqb}
 use mir.ValLaws.{to_z-of_z, to_z-Fits}
 use Rattle.std.specs.Prelude.{◌+◌, ◌-◌, ◌/◌, ◌%◌, ◌<◌, ◌≡◌}
-use Rattle.rules.specs.Prelude.{ℕ, Bool, true, false, ap, ◌∙◌, eqb, ℤ, pos, negsuc, Num, Op, Datum, Int, Imm, Place, Given, Stuck, Has}
+use Rattle.rules.specs.Machine.{Given}
+use Rattle.rules.specs.Prelude.{ℕ, Bool, true, false, ap, ◌∙◌, eqb, ℤ, pos, negsuc, Num, Op, Datum, Int, Imm, Place, None, Some}
 use Rattle.rules.specs.Prelude.O
 use Rattle.rules.specs.When.{when}
 use Rattle.rules.specs.Numbers.{same_num, num, num_code, word_of, low32, wrap32, one_if, arith_of}
@@ -64,30 +65,30 @@ arith_small O.Lt a b = truth_small (lt_z a.n b.n)
 
 -- a datum that a table can hold
 abbrev pub Small : Given → Type 0
-Small Stuck = Unit
-Small (Has (Int n)) = SmallN n
-Small (Has (Imm n)) = SmallN n
-Small (Has (Place b o)) = o < 4294967296
+Small None = Unit
+Small (Some (Int n)) = SmallN n
+Small (Some (Imm n)) = SmallN n
+Small (Some (Place b o)) = o < 4294967296
 
 -- every number in a table is such a datum
 pub datum_small : (c : ℕ) → Small (datum_code c)
 unfolding datum_code
 datum_small c = go (eqb (c / 4294967296) 0) (eqb (c / 4294967296) 1) (eqb (c / 4294967296) 2)
   where
-    go : (x y z : Bool) → Small (when x (λ _. Stuck) (λ _. when y (λ _. Has (Int (num_code (c % 4294967296)))) (λ _. when z (λ _. Has (Imm (num_code (c % 4294967296)))) (λ _. Has (Place (c / 4294967296 - 3) (c % 4294967296))))))
+    go : (x y z : Bool) → Small (when x (λ _. None) (λ _. when y (λ _. Some (Int (num_code (c % 4294967296)))) (λ _. when z (λ _. Some (Imm (num_code (c % 4294967296)))) (λ _. Some (Place (c / 4294967296 - 3) (c % 4294967296))))))
     go true y z = tt
     go false true z = word_is_small (c % 4294967296)
     go false false true = word_is_small (c % 4294967296)
     go false false false = mod-lt c {m = 4294967296} (omega lin)
 
-pub datum_again : (d : Datum) → Small (Has d) → datum_code (code_of d) ≡ Has d
+pub datum_again : (d : Datum) → Small (Some d) → datum_code (code_of d) ≡ Some d
 unfolding datum_code code_of word_of
 datum_again (Int a) h =
     let s : of_z w32 a.n < 4294967296 = word_small a.n h in
-    rw (digits_div 1 s, digits_mod 1 s) (ap (λ (x : Num). Has (Int x)) (number_again a h))
+    rw (digits_div 1 s, digits_mod 1 s) (ap (λ (x : Num). Some (Int x)) (number_again a h))
 datum_again (Imm a) h =
     let s : of_z w32 a.n < 4294967296 = word_small a.n h in
-    rw (digits_div 2 s, digits_mod 2 s) (ap (λ (x : Num). Has (Imm x)) (number_again a h))
+    rw (digits_div 2 s, digits_mod 2 s) (ap (λ (x : Num). Some (Imm x)) (number_again a h))
 datum_again (Place b o) s =
     let z : b + 3 - 3 ≡ b = omega lin in
     rw (digits_div (b + 3) s, digits_mod (b + 3) s, ne_eqb (b + 3) 0 (λ q. omega (lin, q)), ne_eqb (b + 3) 1 (λ q. omega (lin, q)), ne_eqb (b + 3) 2 (λ q. omega (lin, q)), z)

@@ -1,7 +1,8 @@
 -- Steps: what is stuck changes nothing, what has returned stays, each other step counts one, and no step changes a block's row, tag or length. Assumes nothing.
 use Rattle.std.proofs.Common.{arith as lin}
 use Rattle.std.specs.Prelude.{◌+◌, ◌<◌, ◌≡◌}
-use Rattle.rules.specs.Prelude.{ℕ, zero, suc, refl, sym, ap, subst, ◌∙◌, Datum, Given, Stuck, Has, Act, Stepped}
+use Rattle.rules.specs.Machine.{Given}
+use Rattle.rules.specs.Prelude.{ℕ, zero, suc, refl, sym, ap, subst, ◌∙◌, Datum, None, Some, Act, Stepped}
 use Rattle.rules.specs.Prelude.D
 use Rattle.rules.specs.Prelude.S
 use Rattle.rules.specs.Program.{Prog}
@@ -44,8 +45,8 @@ unfolding says step_of
 stuck_changes_nothing P m h = go m.value (subst IsStuck (sym h) tt)
   where
     go : (g : Given) → IsStuck (says_from P m g) → step_from P m g ≡ m
-    go Stuck h = nothing_done (decide P m.store m.vals m.at) m h
-    go (Has _) h = elim h [ ]
+    go None h = nothing_done (decide P m.store m.vals m.at) m h
+    go (Some _) h = elim h [ ]
 
 never_returned : (a : Act) → IsReturned (says_act a) → ⊥
 never_returned D.Stuck h = h
@@ -61,8 +62,8 @@ unfolding says step_of
 returned_stays P m h = go m.value (subst IsReturned (sym h) tt)
   where
     go : (g : Given) → IsReturned (says_from P m g) → step_from P m g ≡ m
-    go Stuck h = absurd (never_returned (decide P m.store m.vals m.at) h)
-    go (Has d) h = refl
+    go None h = absurd (never_returned (decide P m.store m.vals m.at) h)
+    go (Some d) h = refl
 
 one_more_lem : (a : Act) (m : Machine) → IsMoved (says_act a) → (apply a m).steps ≡ m.steps + 1
 unfolding apply
@@ -79,8 +80,8 @@ unfolding says step_of
 moved_counts P m h = go m.value (subst IsMoved (sym h) tt)
   where
     go : (g : Given) → IsMoved (says_from P m g) → (step_from P m g).steps ≡ m.steps + 1
-    go Stuck h = one_more_lem (decide P m.store m.vals m.at) m h
-    go (Has _) h = elim h [ ]
+    go None h = one_more_lem (decide P m.store m.vals m.at) m h
+    go (Some _) h = elim h [ ]
 
 -- ---- runs
 
@@ -91,24 +92,24 @@ run_adds P zero n k = let z : 0 + n ≡ n = omega lin in rw z
 run_adds P (suc m) n k = let z : suc m + n ≡ suc (m + n) = omega lin in rw z (run_adds P m n (step_of P k))
 
 -- a returned machine stays so through any run
-returned_run : (P : Prog) (n : ℕ) (m : Machine) (d : Datum) → m.value ≡ Has d → run_of P n m ≡ m
+returned_run : (P : Prog) (n : ℕ) (m : Machine) (d : Datum) → m.value ≡ Some d → run_of P n m ≡ m
 unfolding run_of step_of
 returned_run P zero m d e = refl
 returned_run P (suc n) m d e = ap (run_of P n) (ap (step_from P m) e) ∙ returned_run P n m d e
 
 -- until the return the count is the number of steps, if no step is stuck
-pub count_until_return : (P : Prog) (n : ℕ) (m : Machine) → ((k : ℕ) → k < n → (run_of P k m).value ≡ Stuck → says P (run_of P k m) ≡ S.Moved) → (run_of P n m).value ≡ Stuck → (run_of P n m).steps ≡ m.steps + n
+pub count_until_return : (P : Prog) (n : ℕ) (m : Machine) → ((k : ℕ) → k < n → (run_of P k m).value ≡ None → says P (run_of P k m) ≡ S.Moved) → (run_of P n m).value ≡ None → (run_of P n m).steps ≡ m.steps + n
 unfolding run_of
 count_until_return P zero m h e = omega lin
 count_until_return P (suc n) m h e = go m.value refl (λ f. count_until_return P n (step_of P m) (λ k l q. h (suc k) (omega lin) q) f)
   where
-    go : (g : Given) → m.value ≡ g → ((run_of P n (step_of P m)).value ≡ Stuck → (run_of P n (step_of P m)).steps ≡ (step_of P m).steps + n) → (run_of P n (step_of P m)).steps ≡ m.steps + suc n
-    go Stuck q f =
+    go : (g : Given) → m.value ≡ g → ((run_of P n (step_of P m)).value ≡ None → (run_of P n (step_of P m)).steps ≡ (step_of P m).steps + n) → (run_of P n (step_of P m)).steps ≡ m.steps + suc n
+    go None q f =
         let a : (run_of P n (step_of P m)).steps ≡ (step_of P m).steps + n = f e in
         let b : (step_of P m).steps ≡ m.steps + 1 = moved_counts P m (h 0 (omega lin) q) in
         omega lin
-    go (Has d) q f =
-        let w : (run_of P (suc n) m).value ≡ Has d = ap (λ (x : Machine). x.value) (returned_run P (suc n) m d q) ∙ q in
+    go (Some d) q f =
+        let w : (run_of P (suc n) m).value ≡ Some d = ap (λ (x : Machine). x.value) (returned_run P (suc n) m d q) ∙ q in
         let z : ◌≡◌ {A = ℕ} 0 1 = cc in
         absurd (omega lin)
 
@@ -131,8 +132,8 @@ unfolding step_of
 step_same P m = go m.value
   where
     go : (g : Given) → SameBlocks m.store (step_from P m g).store
-    go Stuck = apply_same (decide P m.store m.vals m.at) m
-    go (Has d) = same m.store
+    go None = apply_same (decide P m.store m.vals m.at) m
+    go (Some d) = same m.store
 
 pub run_same : (P : Prog) (n : ℕ) (m : Machine) → SameBlocks m.store (run_of P n m).store
 unfolding run_of

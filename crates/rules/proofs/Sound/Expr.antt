@@ -4,11 +4,13 @@ use Rattle.std.proofs.Common.{ltb-false, lt-ltb, ltb-true, ltb→lt, eqb→eq, a
 use Rattle.std.specs.Prelude.{T}
 use Rattle.std.proofs.Math.IntN.{+ℤ_idr}
 use Rattle.std.specs.Prelude.{◌<◌, ◌≤◌, ◌&&◌, ◌≡◌, ◌+ℤ◌}
-use Rattle.rules.specs.Prelude.{ℕ, zero, suc, Bool, true, false, List, [], refl, sym, ap, ap₂, subst, ◌∙◌, ltb, eqb, ℤ, pos, negsuc, length, get_or, Num, Boxed, Offset, Tag, Entry, Env, Cint, Value, Psi, Inf, Upto, Op, Judged, No, Ok, Addr, Datum, Int, Imm, Place, Given, Stuck, Has}
+use Rattle.rules.specs.Typing.{Judged}
+use Rattle.rules.specs.Typing.{Addr}
+use Rattle.rules.specs.Machine.{Given}
+use Rattle.rules.specs.Prelude.{ℕ, zero, suc, Bool, true, false, List, [], refl, sym, ap, ap₂, subst, ◌∙◌, ltb, eqb, ℤ, pos, negsuc, length, get_or, Num, Boxed, Offset, Tag, Entry, Env, Cint, Value, Psi, Inf, Upto, Op, Err, Ok, Datum, Int, Imm, Place, None, Some}
 use Rattle.rules.specs.Prelude.B
 use Rattle.rules.specs.Prelude.I
 use Rattle.rules.specs.Prelude.G
-use Rattle.rules.specs.Prelude.A
 use Rattle.rules.specs.When.{need}
 use Rattle.rules.specs.Numbers.{num, zero_n, arith_of, among, suits, nat_of}
 use Rattle.rules.specs.Program.{Row, row_there, row_at, Rows, Var, Expr, bad, lit, var, arith, val, int, fetch, step, loosest, no_entry, is_zero, psi_of, prods_of, fields_of, field_of, kind_at}
@@ -24,8 +26,8 @@ NonZero (suc n) = Unit
 
 -- a refusal has a number that is not 0, anything else is not stuck and fits
 abbrev pub Meets : Rows → Store → Judged → Given → Type 0
-Meets ρ s (No n) g = NonZero n
-Meets ρ s (Ok k e) g = Fits ρ s k e g
+Meets ρ s (Err n) g = NonZero n
+Meets ρ s (Ok (k, e)) g = Fits ρ s k e g
 
 -- ---- number, variable, arithmetic
 
@@ -33,7 +35,7 @@ pub var_meets : (ρ : Rows) (s : Store) (D : List Var) (Γ : Env) (δ : List Giv
 unfolding ty_var ev_var
 var_meets ρ s D Γ δ F v = go (ltb v Γ.count) refl
   where
-    go : (b : Bool) → ltb v Γ.count ≡ b → Meets ρ s (need (No 4) b (Ok (kind_at D v) (get_or Γ.entries v no_entry))) (get_or δ v Stuck)
+    go : (b : Bool) → ltb v Γ.count ≡ b → Meets ρ s (need (Err 4) b (Ok (kind_at D v, get_or Γ.entries v no_entry))) (get_or δ v None)
     go false h = tt
     go true h = F.each v (rw F.count at (ltb-true v Γ.count h))
 
@@ -44,17 +46,17 @@ arith_agrees o (G.Known a) (G.Known b) m n p q = ap₂ (arith_of o) p q
 
 pub arith_meets : (ρ : Rows) (s : Store) (o : Op) (x y : Judged) (g h : Given) → Meets ρ s x g → Meets ρ s y h → Meets ρ s (ty_arith o x y) (ev_arith o g h)
 unfolding ty_arith ev_arith
-arith_meets ρ s o (No n) y g h p q = p
-arith_meets ρ s o (Ok k e) (No n) g h p q = q
-arith_meets ρ s o (Ok (Value r) e) (Ok l d) g h p q = tt
-arith_meets ρ s o (Ok Cint e) (Ok (Value r) d) g h p q = tt
-arith_meets ρ s o (Ok Cint e) (Ok Cint d) (Has (Int a)) (Has (Int b)) p q = arith_agrees o e.tag d.tag a b p q
-arith_meets ρ s o (Ok Cint e) (Ok Cint d) Stuck h p q = elim p [ ]
-arith_meets ρ s o (Ok Cint e) (Ok Cint d) (Has (Int a)) Stuck p q = elim q [ ]
-arith_meets ρ s o (Ok Cint e) (Ok Cint d) (Has (Int a)) (Has (Imm _)) p q = elim q [ ]
-arith_meets ρ s o (Ok Cint e) (Ok Cint d) (Has (Int a)) (Has (Place _ _)) p q = elim q [ ]
-arith_meets ρ s o (Ok Cint e) (Ok Cint d) (Has (Imm _)) h p q = elim p [ ]
-arith_meets ρ s o (Ok Cint e) (Ok Cint d) (Has (Place _ _)) h p q = elim p [ ]
+arith_meets ρ s o (Err n) y g h p q = p
+arith_meets ρ s o (Ok (k, e)) (Err n) g h p q = q
+arith_meets ρ s o (Ok (Value r, e)) (Ok (l, d)) g h p q = tt
+arith_meets ρ s o (Ok (Cint, e)) (Ok (Value r, d)) g h p q = tt
+arith_meets ρ s o (Ok (Cint, e)) (Ok (Cint, d)) (Some (Int a)) (Some (Int b)) p q = arith_agrees o e.tag d.tag a b p q
+arith_meets ρ s o (Ok (Cint, e)) (Ok (Cint, d)) None h p q = elim p [ ]
+arith_meets ρ s o (Ok (Cint, e)) (Ok (Cint, d)) (Some (Int a)) None p q = elim q [ ]
+arith_meets ρ s o (Ok (Cint, e)) (Ok (Cint, d)) (Some (Int a)) (Some (Imm _)) p q = elim q [ ]
+arith_meets ρ s o (Ok (Cint, e)) (Ok (Cint, d)) (Some (Int a)) (Some (Place _ _)) p q = elim q [ ]
+arith_meets ρ s o (Ok (Cint, e)) (Ok (Cint, d)) (Some (Imm _)) h p q = elim p [ ]
+arith_meets ρ s o (Ok (Cint, e)) (Ok (Cint, d)) (Some (Place _ _)) h p q = elim p [ ]
 
 -- ---- val, int
 
@@ -83,18 +85,18 @@ suits_there ρ r t h = go (ltb r (length ρ)) refl
     go true q = refl
     go false q = absurd (nothing_suits t (rw (psi_absent ρ r (ltb-false r (length ρ) q)) at h))
 
-val_need : (ρ : Rows) (s : Store) (r : ℕ) (e : Entry) (n : Num) → AgreesT e.tag n → (b : Bool) → suits_tag (psi_of ρ r) e.tag ≡ b → Meets ρ s (need (No 9) b (Ok (Value r) (imm_entry e.tag))) (need Stuck (row_there ρ r) (Has (Imm n)))
+val_need : (ρ : Rows) (s : Store) (r : ℕ) (e : Entry) (n : Num) → AgreesT e.tag n → (b : Bool) → suits_tag (psi_of ρ r) e.tag ≡ b → Meets ρ s (need (Err 9) b (Ok (Value r, imm_entry e.tag))) (need None (row_there ρ r) (Some (Imm n)))
 val_need ρ s r e n p true h = rw (suits_there ρ r e.tag (rw h tt)) (record { loose = tt; still = refl; named = p; suited = suits_agreed (psi_of ρ r) e.tag n (rw h tt) p })
 val_need ρ s r e n p false h = tt
 
 pub val_meets : (ρ : Rows) (s : Store) (r : ℕ) (x : Judged) (g : Given) → Meets ρ s x g → Meets ρ s (ty_val ρ r x) (ev_val ρ r g)
 unfolding ty_val ev_val
-val_meets ρ s r (No n) g p = p
-val_meets ρ s r (Ok (Value q) e) g p = tt
-val_meets ρ s r (Ok Cint e) (Has (Int n)) p = val_need ρ s r e n p (suits_tag (psi_of ρ r) e.tag) refl
-val_meets ρ s r (Ok Cint e) Stuck p = elim p [ ]
-val_meets ρ s r (Ok Cint e) (Has (Imm _)) p = elim p [ ]
-val_meets ρ s r (Ok Cint e) (Has (Place _ _)) p = elim p [ ]
+val_meets ρ s r (Err n) g p = p
+val_meets ρ s r (Ok (Value q, e)) g p = tt
+val_meets ρ s r (Ok (Cint, e)) (Some (Int n)) p = val_need ρ s r e n p (suits_tag (psi_of ρ r) e.tag) refl
+val_meets ρ s r (Ok (Cint, e)) None p = elim p [ ]
+val_meets ρ s r (Ok (Cint, e)) (Some (Imm _)) p = elim p [ ]
+val_meets ρ s r (Ok (Cint, e)) (Some (Place _ _)) p = elim p [ ]
 
 -- a row without products has no place in a store that is sound
 pub no_place : (ρ : Rows) (s : Store) → Sound ρ s → (r : ℕ) (e : Entry) (b o : ℕ) → FitsPlace s r e b o → T (immediate e.boxed (prods_of ρ r)) → ⊥
@@ -111,7 +113,7 @@ no_place ρ s W r e b o p h = go e.boxed p.loose h
     go B.Block l k = elim k [ ]
     go B.Imm l k = elim l [ ]
 
-int_need : (ρ : Rows) (s : Store) → Sound ρ s → (r : ℕ) (e : Entry) (d : Datum) → Fits ρ s (Value r) e (Has d) → (b : Bool) → immediate e.boxed (prods_of ρ r) ≡ b → (c : Bool) → Meets ρ s (need (No 7) b (need (No 10) c (Ok Cint (int_entry e.tag)))) (ev_int (Has d))
+int_need : (ρ : Rows) (s : Store) → Sound ρ s → (r : ℕ) (e : Entry) (d : Datum) → Fits ρ s (Value r) e (Some d) → (b : Bool) → immediate e.boxed (prods_of ρ r) ≡ b → (c : Bool) → Meets ρ s (need (Err 7) b (need (Err 10) c (Ok (Cint, int_entry e.tag)))) (ev_int (Some d))
 unfolding ev_int
 int_need ρ s W r e d p false h c = tt
 int_need ρ s W r e d p true h false = tt
@@ -121,10 +123,10 @@ int_need ρ s W r e (Int _) p true h true = elim p [ ]
 
 pub int_meets : (ρ : Rows) (s : Store) → Sound ρ s → (x : Judged) (g : Given) → Meets ρ s x g → Meets ρ s (ty_int ρ x) (ev_int g)
 unfolding ty_int
-int_meets ρ s W (No n) g p = p
-int_meets ρ s W (Ok Cint e) g p = tt
-int_meets ρ s W (Ok (Value r) e) (Has d) p = int_need ρ s W r e d p (immediate e.boxed (prods_of ρ r)) refl (is_zero e.offset)
-int_meets ρ s W (Ok (Value r) e) Stuck p = elim p [ ]
+int_meets ρ s W (Err n) g p = p
+int_meets ρ s W (Ok (Cint, e)) g p = tt
+int_meets ρ s W (Ok (Value r, e)) (Some d) p = int_need ρ s W r e d p (immediate e.boxed (prods_of ρ r)) refl (is_zero e.offset)
+int_meets ρ s W (Ok (Value r, e)) None p = elim p [ ]
 
 -- ---- addresses
 
@@ -173,7 +175,7 @@ spot_place s ψ p B.Either i G.Unknown b o l u v h = go (is_zero i) (lone ψ p) 
     go false d x q = tt
 spot_place s ψ p B.Imm i t b o l u v h = elim l [ ]
 
-spot_points : (ρ : Rows) (s : Store) → Sound ρ s → (r : ℕ) (e : Entry) (d : Datum) → Fits ρ s (Value r) e (Has d) → Points s (spot_of e.boxed e.offset e.tag (lone (psi_of ρ r) (prods_of ρ r))) d
+spot_points : (ρ : Rows) (s : Store) → Sound ρ s → (r : ℕ) (e : Entry) (d : Datum) → Fits ρ s (Value r) e (Some d) → Points s (spot_of e.boxed e.offset e.tag (lone (psi_of ρ r) (prods_of ρ r))) d
 spot_points ρ s W r e (Imm n) p = spot_imm s (psi_of ρ r) (prods_of ρ r) e.boxed e.offset e.tag n p.loose p.suited
 spot_points ρ s W r e (Place b o) p =
     let q : tag_in s b < prods_of ρ (row_in s b) = W.tags b p.there in
@@ -189,22 +191,22 @@ pub record Lands (ρ : Rows) (s : Store) (r b o : ℕ) (m : Num) (t o' : ℕ) : 
   pub inside : o' < cells_in s b
 
 abbrev pub Aims : Rows → Store → ℕ → Datum → Num → Addr → Type 0
-Aims ρ s r d m (A.Bad n) = NonZero n
-Aims ρ s r (Int n) m (A.At t o') = ⊥
-Aims ρ s r (Imm n) m (A.At t o') = ⊥
-Aims ρ s r (Place b o) m (A.At t o') = Lands ρ s r b o m t o'
+Aims ρ s r d m (Err n) = NonZero n
+Aims ρ s r (Int n) m (Ok (t, o')) = ⊥
+Aims ρ s r (Imm n) m (Ok (t, o')) = ⊥
+Aims ρ s r (Place b o) m (Ok (t, o')) = Lands ρ s r b o m t o'
 
 aim_at : (ρ : Rows) (s : Store) → Sound ρ s → (r : ℕ) (e : Entry) (b o : ℕ) → FitsPlace s r e b o → (m : Num) (t z : ℤ) → t ≡ pos (tag_in s b) → pos o +ℤ m.n ≡ z
-    → Aims ρ s r (Place b o) m (need (A.Bad 8) (among t (prods_of ρ r)) (need (A.Bad 8) (among z (fields_of ρ r (nat_of t))) (A.At (nat_of t) (nat_of z))))
+    → Aims ρ s r (Place b o) m (need (Err 8) (among t (prods_of ρ r)) (need (Err 8) (among z (fields_of ρ r (nat_of t))) (Ok (nat_of t, nat_of z))))
 aim_at ρ s W r e b o p m (negsuc t) z u v = tt
 aim_at ρ s W r e b o p m (pos t) (negsuc z) u v = go (ltb t (prods_of ρ r))
   where
-    go : (c : Bool) → Aims ρ s r (Place b o) m (need (A.Bad 8) c (A.Bad 8))
+    go : (c : Bool) → Aims ρ s r (Place b o) m (need (Err 8) c (Err 8))
     go true = tt
     go false = tt
 aim_at ρ s W r e b o p m (pos t) (pos z) u v = go (ltb t (prods_of ρ r)) (ltb z (fields_of ρ r t)) refl
   where
-    go : (c d : Bool) → ltb z (fields_of ρ r t) ≡ d → Aims ρ s r (Place b o) m (need (A.Bad 8) c (need (A.Bad 8) d (A.At t z)))
+    go : (c d : Bool) → ltb z (fields_of ρ r t) ≡ d → Aims ρ s r (Place b o) m (need (Err 8) c (need (Err 8) d (Ok (t, z))))
     go true true h =
         let w : tag_in s b ≡ t = cc in
         let l : cells_in s b ≡ fields_of ρ r t = W.lens b p.there ∙ ap₂ (fields_of ρ) p.row w in
@@ -213,7 +215,7 @@ aim_at ρ s W r e b o p m (pos t) (pos z) u v = go (ltb t (prods_of ρ r)) (ltb 
     go true false h = tt
     go false d h = tt
 
-aim_lands : (ρ : Rows) (s : Store) → Sound ρ s → (r : ℕ) (e : Entry) (d : Datum) → Fits ρ s (Value r) e (Has d) → (x : Tag) (m : Num) → AgreesT x m → (σ : Spot) → Points s σ d → Aims ρ s r d m (addr_spot ρ r σ x)
+aim_lands : (ρ : Rows) (s : Store) → Sound ρ s → (r : ℕ) (e : Entry) (d : Datum) → Fits ρ s (Value r) e (Some d) → (x : Tag) (m : Num) → AgreesT x m → (σ : Spot) → Points s σ d → Aims ρ s r d m (addr_spot ρ r σ x)
 aim_lands ρ s W r e d p x m a nowhere h = tt
 aim_lands ρ s W r e d p G.Unknown m a (spot i t) h = tt
 aim_lands ρ s W r e (Place b o) p (G.Known c) m a (spot i t) h =
@@ -222,7 +224,7 @@ aim_lands ρ s W r e (Int _) p (G.Known c) m a (spot i t) h = elim p [ ]
 aim_lands ρ s W r e (Imm _) p (G.Known c) m a (spot i t) h = elim h [ ]
 
 -- the rule of an address, whole
-pub address : (ρ : Rows) (s : Store) → Sound ρ s → (r : ℕ) (e : Entry) (d : Datum) → Fits ρ s (Value r) e (Has d) → (x : Tag) (m : Num) → AgreesT x m → Aims ρ s r d m (address_of ρ r e x)
+pub address : (ρ : Rows) (s : Store) → Sound ρ s → (r : ℕ) (e : Entry) (d : Datum) → Fits ρ s (Value r) e (Some d) → (x : Tag) (m : Num) → AgreesT x m → Aims ρ s r d m (address_of ρ r e x)
 address ρ s W r e d p x m a = aim_lands ρ s W r e d p x m a (spot_of e.boxed e.offset e.tag (lone (psi_of ρ r) (prods_of ρ r))) (spot_points ρ s W r e d p)
 
 -- ---- fetch, step
@@ -230,44 +232,44 @@ address ρ s W r e d p x m a = aim_lands ρ s W r e d p x m a (spot_of e.boxed e
 pub is_inside : (s : Store) (b o : ℕ) → b < length s → o < cells_in s b → inside s b o ≡ true
 is_inside s b o h k = rw (lt-ltb b (length s) h, lt-ltb o (cells_in s b) k)
 
-fetch_lands : (ρ : Rows) (s : Store) → Sound ρ s → (r : ℕ) (d : Datum) (a : Addr) → Aims ρ s r d zero_n a → Meets ρ s (fetched ρ r a) (ev_fetch s (Has d))
+fetch_lands : (ρ : Rows) (s : Store) → Sound ρ s → (r : ℕ) (d : Datum) (a : Addr) → Aims ρ s r d zero_n a → Meets ρ s (fetched ρ r a) (ev_fetch s (Some d))
 unfolding ev_fetch
-fetch_lands ρ s W r d (A.Bad n) h = h
-fetch_lands ρ s W r (Place b o) (A.At t o') h =
+fetch_lands ρ s W r d (Err n) h = h
+fetch_lands ρ s W r (Place b o) (Ok (t, o')) h =
     let same : o' ≡ o = cc (+ℤ_idr (pos o)) in
     let k : o < cells_in s b = subst (λ (z : ℕ). z < cells_in s b) same h.inside in
     let c : Fits ρ s (Value (field_of ρ (row_in s b) (tag_in s b) o)) loosest (cell_at s b o) = W.cells b o h.there k in
     rw (is_inside s b o h.there k, same, ← h.row, ← h.tag) c
-fetch_lands ρ s W r (Int _) (A.At t o') h = elim h [ ]
-fetch_lands ρ s W r (Imm _) (A.At t o') h = elim h [ ]
+fetch_lands ρ s W r (Int _) (Ok (t, o')) h = elim h [ ]
+fetch_lands ρ s W r (Imm _) (Ok (t, o')) h = elim h [ ]
 
 pub fetch_meets : (ρ : Rows) (s : Store) → Sound ρ s → (x : Judged) (g : Given) → Meets ρ s x g → Meets ρ s (ty_fetch ρ x) (ev_fetch s g)
 unfolding ty_fetch
-fetch_meets ρ s W (No n) g p = p
-fetch_meets ρ s W (Ok Cint e) g p = tt
-fetch_meets ρ s W (Ok (Value r) e) (Has d) p = fetch_lands ρ s W r d (address_of ρ r e (G.Known zero_n)) (address ρ s W r e d p (G.Known zero_n) zero_n refl)
-fetch_meets ρ s W (Ok (Value r) e) Stuck p = elim p [ ]
+fetch_meets ρ s W (Err n) g p = p
+fetch_meets ρ s W (Ok (Cint, e)) g p = tt
+fetch_meets ρ s W (Ok (Value r, e)) (Some d) p = fetch_lands ρ s W r d (address_of ρ r e (G.Known zero_n)) (address ρ s W r e d p (G.Known zero_n) zero_n refl)
+fetch_meets ρ s W (Ok (Value r, e)) None p = elim p [ ]
 
-step_lands : (ρ : Rows) (s : Store) (r : ℕ) (d : Datum) (m : Num) (a : Addr) → Aims ρ s r d m a → Meets ρ s (stepped r a) (ev_step s (Has d) (Has (Int m)))
+step_lands : (ρ : Rows) (s : Store) (r : ℕ) (d : Datum) (m : Num) (a : Addr) → Aims ρ s r d m a → Meets ρ s (stepped r a) (ev_step s (Some d) (Some (Int m)))
 unfolding ev_step moved
-step_lands ρ s r d m (A.Bad n) h = h
-step_lands ρ s r (Place b o) m (A.At t o') h =
+step_lands ρ s r d m (Err n) h = h
+step_lands ρ s r (Place b o) m (Ok (t, o')) h =
     rw (h.moves, is_inside s b o' h.there h.inside)
     (record { loose = tt; there = h.there; row = h.row; offset = refl; tag = ap (λ (k : ℕ). num (pos k)) (sym h.tag); inside = h.inside })
-step_lands ρ s r (Int _) m (A.At t o') h = elim h [ ]
-step_lands ρ s r (Imm _) m (A.At t o') h = elim h [ ]
+step_lands ρ s r (Int _) m (Ok (t, o')) h = elim h [ ]
+step_lands ρ s r (Imm _) m (Ok (t, o')) h = elim h [ ]
 
 pub step_meets : (ρ : Rows) (s : Store) → Sound ρ s → (x y : Judged) (g k : Given) → Meets ρ s x g → Meets ρ s y k → Meets ρ s (ty_step ρ x y) (ev_step s g k)
 unfolding ty_step
-step_meets ρ s W (No n) y g k p q = p
-step_meets ρ s W (Ok l e) (No n) g k p q = q
-step_meets ρ s W (Ok Cint e) (Ok l d) g k p q = tt
-step_meets ρ s W (Ok (Value r) e) (Ok (Value v) d) g k p q = tt
-step_meets ρ s W (Ok (Value r) e) (Ok Cint d) (Has a) (Has (Int m)) p q = step_lands ρ s r a m (address_of ρ r e d.tag) (address ρ s W r e a p d.tag m q)
-step_meets ρ s W (Ok (Value r) e) (Ok Cint d) Stuck k p q = elim p [ ]
-step_meets ρ s W (Ok (Value r) e) (Ok Cint d) (Has a) Stuck p q = elim q [ ]
-step_meets ρ s W (Ok (Value r) e) (Ok Cint d) (Has a) (Has (Imm _)) p q = elim q [ ]
-step_meets ρ s W (Ok (Value r) e) (Ok Cint d) (Has a) (Has (Place _ _)) p q = elim q [ ]
+step_meets ρ s W (Err n) y g k p q = p
+step_meets ρ s W (Ok (l, e)) (Err n) g k p q = q
+step_meets ρ s W (Ok (Cint, e)) (Ok (l, d)) g k p q = tt
+step_meets ρ s W (Ok (Value r, e)) (Ok (Value v, d)) g k p q = tt
+step_meets ρ s W (Ok (Value r, e)) (Ok (Cint, d)) (Some a) (Some (Int m)) p q = step_lands ρ s r a m (address_of ρ r e d.tag) (address ρ s W r e a p d.tag m q)
+step_meets ρ s W (Ok (Value r, e)) (Ok (Cint, d)) None k p q = elim p [ ]
+step_meets ρ s W (Ok (Value r, e)) (Ok (Cint, d)) (Some a) None p q = elim q [ ]
+step_meets ρ s W (Ok (Value r, e)) (Ok (Cint, d)) (Some a) (Some (Imm _)) p q = elim q [ ]
+step_meets ρ s W (Ok (Value r, e)) (Ok (Cint, d)) (Some a) (Some (Place _ _)) p q = elim q [ ]
 
 -- ---- the theorem of expressions
 

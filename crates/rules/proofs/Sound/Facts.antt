@@ -3,7 +3,8 @@ use Rattle.std.proofs.Math.Dec.{eqb_refl}
 use Rattle.std.proofs.Common.{lt→ltb, ltb→lt, eqb→eq, arith as lin}
 use Rattle.std.specs.Prelude.{T}
 use Rattle.std.specs.Prelude.{◌+◌, ◌<◌, ◌≤◌, ◌&&◌, ◌∷◌, ◌≡◌}
-use Rattle.rules.specs.Prelude.{ℕ, zero, suc, List, [], sym, ap, ◌∙◌, ltb, eqb, pos, length, get_or, Num, Boxed, Offset, Tag, Entry, Env, Kind, Cint, Value, Int, Imm, Place, Given, Stuck, Has}
+use Rattle.rules.specs.Machine.{Given}
+use Rattle.rules.specs.Prelude.{ℕ, zero, suc, List, [], sym, ap, ◌∙◌, ltb, eqb, pos, length, get_or, Num, Boxed, Offset, Tag, Entry, Env, Kind, Cint, Value, Int, Imm, Place, None, Some}
 use Rattle.rules.specs.Prelude.B
 use Rattle.rules.specs.Prelude.I
 use Rattle.rules.specs.Prelude.G
@@ -50,13 +51,13 @@ pub record FitsPlace (s : Store) (r : ℕ) (e : Entry) (b o : ℕ) : Type 0 wher
   pub inside : o < cells_in s b
 
 abbrev pub Fits : Rows → Store → Kind → Entry → Given → Type 0
-Fits ρ s k e Stuck = ⊥
-Fits ρ s Cint e (Has (Int n)) = AgreesT e.tag n
-Fits ρ s Cint e (Has (Imm n)) = ⊥
-Fits ρ s Cint e (Has (Place b o)) = ⊥
-Fits ρ s (Value r) e (Has (Int n)) = ⊥
-Fits ρ s (Value r) e (Has (Imm n)) = FitsImm ρ r e n
-Fits ρ s (Value r) e (Has (Place b o)) = FitsPlace s r e b o
+Fits ρ s k e None = ⊥
+Fits ρ s Cint e (Some (Int n)) = AgreesT e.tag n
+Fits ρ s Cint e (Some (Imm n)) = ⊥
+Fits ρ s Cint e (Some (Place b o)) = ⊥
+Fits ρ s (Value r) e (Some (Int n)) = ⊥
+Fits ρ s (Value r) e (Some (Imm n)) = FitsImm ρ r e n
+Fits ρ s (Value r) e (Some (Place b o)) = FitsPlace s r e b o
 
 -- every block has a tag of its row, as many cells as that product has fields, and cells that fit
 pub record Sound (ρ : Rows) (s : Store) : Type 0 where
@@ -69,7 +70,7 @@ pub record FitsAll (ρ : Rows) (s : Store) (D : List Var) (Γ : Env) (δ : List 
   pub count : Γ.count ≡ length D
   pub wide : length D ≤ length Γ.entries
   pub size : length δ ≡ length D
-  pub each : (v : ℕ) → v < length D → Fits ρ s (kind_at D v) (get_or Γ.entries v no_entry) (get_or δ v Stuck)
+  pub each : (v : ℕ) → v < length D → Fits ρ s (kind_at D v) (get_or Γ.entries v no_entry) (get_or δ v None)
 
 -- ---- small facts
 
@@ -102,24 +103,24 @@ tag_agrees (G.Known m) n h = same→eq m n h
 
 pub fits→ : (ρ : Rows) (s : Store) (k : Kind) (e : Entry) (g : Given) → T (fits ρ s k e g) → Fits ρ s k e g
 unfolding fits fits_imm fits_place
-fits→ ρ s Cint e (Has (Int n)) h = tag_agrees e.tag n h
-fits→ ρ s (Value r) e (Has (Imm n)) h =
+fits→ ρ s Cint e (Some (Int n)) h = tag_agrees e.tag n h
+fits→ ρ s (Value r) e (Some (Imm n)) h =
     let a = and_both (not_box e.boxed) (offset_is e.offset zero_n && (tag_is e.tag n && suits (psi_of ρ r) n)) h in
     let b = and_both (offset_is e.offset zero_n) (tag_is e.tag n && suits (psi_of ρ r) n) a.1 in
     let c = and_both (tag_is e.tag n) (suits (psi_of ρ r) n) b.1 in
     record { loose = sits e.boxed a.0; still = offset_agrees e.offset zero_n b.0; named = tag_agrees e.tag n c.0; suited = c.1 }
-fits→ ρ s (Value r) e (Has (Place b o)) h =
+fits→ ρ s (Value r) e (Some (Place b o)) h =
     let u = and_both (not_imm e.boxed) (agree (row_in s b) r && (offset_is e.offset (num (pos o)) && (tag_is e.tag (num (pos (tag_in s b))) && inside s b o))) h in
     let v = and_both (agree (row_in s b) r) (offset_is e.offset (num (pos o)) && (tag_is e.tag (num (pos (tag_in s b))) && inside s b o)) u.1 in
     let w = and_both (offset_is e.offset (num (pos o))) (tag_is e.tag (num (pos (tag_in s b))) && inside s b o) v.1 in
     let x = and_both (tag_is e.tag (num (pos (tag_in s b)))) (inside s b o) w.1 in
     let y = and_both (ltb b (length s)) (ltb o (cells_in s b)) x.1 in
     record { loose = points e.boxed u.0; there = ltb→lt b (length s) y.0; row = eqb→eq (row_in s b) r v.0; offset = offset_agrees e.offset (num (pos o)) w.0; tag = tag_agrees e.tag (num (pos (tag_in s b))) x.0; inside = ltb→lt o (cells_in s b) y.1 }
-fits→ ρ s Cint e Stuck h = elim h [ ]
-fits→ ρ s Cint e (Has (Imm n)) h = elim h [ ]
-fits→ ρ s Cint e (Has (Place b o)) h = elim h [ ]
-fits→ ρ s (Value r) e Stuck h = elim h [ ]
-fits→ ρ s (Value r) e (Has (Int n)) h = elim h [ ]
+fits→ ρ s Cint e None h = elim h [ ]
+fits→ ρ s Cint e (Some (Imm n)) h = elim h [ ]
+fits→ ρ s Cint e (Some (Place b o)) h = elim h [ ]
+fits→ ρ s (Value r) e None h = elim h [ ]
+fits→ ρ s (Value r) e (Some (Int n)) h = elim h [ ]
 
 -- ---- and the facts pass the test
 
@@ -143,26 +144,26 @@ tag_back (G.Known m) n h = rw h (same_refl n)
 
 pub →fits : (ρ : Rows) (s : Store) (k : Kind) (e : Entry) (g : Given) → Fits ρ s k e g → T (fits ρ s k e g)
 unfolding fits fits_imm fits_place
-→fits ρ s Cint e (Has (Int n)) h = tag_back e.tag n h
-→fits ρ s (Value r) e (Has (Imm n)) h =
+→fits ρ s Cint e (Some (Int n)) h = tag_back e.tag n h
+→fits ρ s (Value r) e (Some (Imm n)) h =
     and_held (not_box e.boxed) _ (sits_back e.boxed h.loose)
     (and_held (offset_is e.offset zero_n) _ (offset_back e.offset zero_n h.still)
     (and_held (tag_is e.tag n) (suits (psi_of ρ r) n) (tag_back e.tag n h.named) h.suited))
-→fits ρ s (Value r) e (Has (Place b o)) h =
+→fits ρ s (Value r) e (Some (Place b o)) h =
     and_held (not_imm e.boxed) _ (points_back e.boxed h.loose)
     (and_held (agree (row_in s b) r) _ (rw h.row (eqb_refl r))
     (and_held (offset_is e.offset (num (pos o))) _ (offset_back e.offset (num (pos o)) h.offset)
     (and_held (tag_is e.tag (num (pos (tag_in s b)))) (inside s b o) (tag_back e.tag (num (pos (tag_in s b))) h.tag)
     (and_held (ltb b (length s)) (ltb o (cells_in s b)) (lt→ltb b (length s) h.there) (lt→ltb o (cells_in s b) h.inside)))))
-→fits ρ s Cint e Stuck h = elim h [ ]
-→fits ρ s Cint e (Has (Imm n)) h = elim h [ ]
-→fits ρ s Cint e (Has (Place b o)) h = elim h [ ]
-→fits ρ s (Value r) e Stuck h = elim h [ ]
-→fits ρ s (Value r) e (Has (Int n)) h = elim h [ ]
+→fits ρ s Cint e None h = elim h [ ]
+→fits ρ s Cint e (Some (Imm n)) h = elim h [ ]
+→fits ρ s Cint e (Some (Place b o)) h = elim h [ ]
+→fits ρ s (Value r) e None h = elim h [ ]
+→fits ρ s (Value r) e (Some (Int n)) h = elim h [ ]
 
 -- ---- a store that passes is sound
 
-cells_at : (ρ : Rows) (s : Store) (r t o : ℕ) (gs : List Given) → T (cells_fit ρ s r t o gs) → (i : ℕ) → i < length gs → Fits ρ s (Value (field_of ρ r t (o + i))) loosest (get_or gs i Stuck)
+cells_at : (ρ : Rows) (s : Store) (r t o : ℕ) (gs : List Given) → T (cells_fit ρ s r t o gs) → (i : ℕ) → i < length gs → Fits ρ s (Value (field_of ρ r t (o + i))) loosest (get_or gs i None)
 unfolding cells_fit
 cells_at ρ s r t o [] h i k = absurd (omega lin)
 cells_at ρ s r t o (g ∷ gs) h zero k =
@@ -188,7 +189,7 @@ pub store_sound : (ρ : Rows) (s : Store) → Each (λ K. block_number ρ s K �
 unfolding row_in tag_in cells_in cell_at
 store_sound ρ s h = record { tags = λ b k. (one b k).0; lens = λ b k. (one b k).1; cells = λ b o k i. (one b k).2 o i }
   where
-    one : (b : ℕ) → b < length s → ((block_at s b).tag < prods_of ρ (block_at s b).row) × (length (block_at s b).cells ≡ fields_of ρ (block_at s b).row (block_at s b).tag) × ((o : ℕ) → o < length (block_at s b).cells → Fits ρ s (Value (field_of ρ (block_at s b).row (block_at s b).tag o)) loosest (get_or (block_at s b).cells o Stuck))
+    one : (b : ℕ) → b < length s → ((block_at s b).tag < prods_of ρ (block_at s b).row) × (length (block_at s b).cells ≡ fields_of ρ (block_at s b).row (block_at s b).tag) × ((o : ℕ) → o < length (block_at s b).cells → Fits ρ s (Value (field_of ρ (block_at s b).row (block_at s b).tag o)) loosest (get_or (block_at s b).cells o None))
     one b k =
         let K : Block = block_at s b in
         let f = block_facts ρ s K (each_at (λ K. block_number ρ s K ≡ 0) s no_block h b k) in

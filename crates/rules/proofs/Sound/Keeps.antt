@@ -3,7 +3,8 @@ use Rattle.std.proofs.Math.ListN.{length-set}
 use Rattle.std.proofs.Common.{get_or-set_same, get_or-set_other}
 use Rattle.std.proofs.Math.Decide.{ℕ_discrete}
 use Rattle.std.specs.Prelude.{◌<◌, ◌∷◌, ◌≡◌}
-use Rattle.rules.specs.Prelude.{ℕ, zero, suc, List, [], refl, ◌∙◌, length, get_or, set, Entry, Kind, Cint, Value, Datum, Int, Imm, Place, Given, Stuck, Has}
+use Rattle.rules.specs.Machine.{Given}
+use Rattle.rules.specs.Prelude.{ℕ, zero, suc, List, [], refl, ◌∙◌, length, get_or, set, Entry, Kind, Cint, Value, Datum, Int, Imm, Place, None, Some}
 use Rattle.rules.specs.Program.{Rows, loosest, field_of}
 use Rattle.rules.specs.Machine.{Store, Block, block_at, row_in, tag_in, cells_in, cell_at, set_cell}
 use Rattle.rules.proofs.Sound.Facts.{Sound, Fits}
@@ -27,36 +28,36 @@ module _ (s : Store) (b o : ℕ) (d : Datum) where
 
   pub len_keeps : (c : ℕ) → cells_in (set_cell s b o d) c ≡ cells_in s c
   unfolding cells_in set_cell
-  len_keeps c = set_keeps (λ (x : Block). length x.cells) s b c _ _ (length-set (block_at s b).cells o (Has d))
+  len_keeps c = set_keeps (λ (x : Block). length x.cells) s b c _ _ (length-set (block_at s b).cells o (Some d))
 
   pub count_keeps : length (set_cell s b o d) ≡ length s
   unfolding set_cell
   count_keeps = length-set s b _
 
   pub fits_keeps : (ρ : Rows) (k : Kind) (e : Entry) (g : Given) → Fits ρ s k e g → Fits ρ (set_cell s b o d) k e g
-  fits_keeps ρ Cint e (Has (Int n)) p = p
-  fits_keeps ρ (Value r) e (Has (Imm n)) p = p
-  fits_keeps ρ (Value r) e (Has (Place c i)) p =
+  fits_keeps ρ Cint e (Some (Int n)) p = p
+  fits_keeps ρ (Value r) e (Some (Imm n)) p = p
+  fits_keeps ρ (Value r) e (Some (Place c i)) p =
       record { loose = p.loose; there = rw count_keeps p.there; row = row_keeps c ∙ p.row; offset = p.offset; tag = rw (tag_keeps c) p.tag; inside = rw (len_keeps c) p.inside }
-  fits_keeps ρ Cint e Stuck p = elim p [ ]
-  fits_keeps ρ Cint e (Has (Imm n)) p = elim p [ ]
-  fits_keeps ρ Cint e (Has (Place c i)) p = elim p [ ]
-  fits_keeps ρ (Value r) e Stuck p = elim p [ ]
-  fits_keeps ρ (Value r) e (Has (Int n)) p = elim p [ ]
+  fits_keeps ρ Cint e None p = elim p [ ]
+  fits_keeps ρ Cint e (Some (Imm n)) p = elim p [ ]
+  fits_keeps ρ Cint e (Some (Place c i)) p = elim p [ ]
+  fits_keeps ρ (Value r) e None p = elim p [ ]
+  fits_keeps ρ (Value r) e (Some (Int n)) p = elim p [ ]
 
-  cell_here : b < length s → o < cells_in s b → cell_at (set_cell s b o d) b o ≡ Has d
+  cell_here : b < length s → o < cells_in s b → cell_at (set_cell s b o d) b o ≡ Some d
   unfolding cell_at set_cell cells_in
-  cell_here h k = rw (get_or-set_same s b) (get_or-set_same (block_at s b).cells o (Has d) Stuck k)
+  cell_here h k = rw (get_or-set_same s b) (get_or-set_same (block_at s b).cells o (Some d) None k)
 
   cell_off : (c i : ℕ) → (i ≡ o → ⊥) → cell_at (set_cell s b o d) c i ≡ cell_at s c i
   unfolding cell_at set_cell
-  cell_off c i h = set_keeps (λ (x : Block). get_or x.cells i Stuck) s b c _ _ (get_or-set_other (block_at s b).cells o i (Has d) Stuck h)
+  cell_off c i h = set_keeps (λ (x : Block). get_or x.cells i None) s b c _ _ (get_or-set_other (block_at s b).cells o i (Some d) None h)
 
   cell_far : (c i : ℕ) → (c ≡ b → ⊥) → cell_at (set_cell s b o d) c i ≡ cell_at s c i
   unfolding cell_at set_cell
   cell_far c i h = rw (get_or-set_other s b c)
 
-  module _ (ρ : Rows) (W : Sound ρ s) (h : b < length s) (k : o < cells_in s b) (p : Fits ρ s (Value (field_of ρ (row_in s b) (tag_in s b) o)) loosest (Has d)) where
+  module _ (ρ : Rows) (W : Sound ρ s) (h : b < length s) (k : o < cells_in s b) (p : Fits ρ s (Value (field_of ρ (row_in s b) (tag_in s b) o)) loosest (Some d)) where
     cell_fits : (c i : ℕ) → Dec (c ≡ b) → Dec (i ≡ o) → c < length s → i < cells_in s c → Fits ρ s (Value (field_of ρ (row_in s c) (tag_in s c) i)) loosest (cell_at (set_cell s b o d) c i)
     cell_fits c i (yes u) (yes v) x y = rw (u, v, cell_here h k) p
     cell_fits c i (yes u) (no v) x y = rw (cell_off c i v) (W.cells c i x y)

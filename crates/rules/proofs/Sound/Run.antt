@@ -2,7 +2,9 @@
 use Rattle.std.proofs.Math.Dec.{T}
 use Rattle.std.proofs.Common.{ltb→lt, eqb→eq, arith as lin, add-one}
 use Rattle.std.specs.Prelude.{◌+◌, ◌<◌, ◌&&◌, ◌∷◌, ◌++◌, ◌≡◌}
-use Rattle.rules.specs.Prelude.{ℕ, zero, suc, Bool, true, false, not, List, [], map, refl, sym, ap, subst, ltb, length, get_or, set, Env, Kind, Answer, Judged, No, Ok, Line, Given, Stuck, Has, Act}
+use Rattle.rules.specs.Typing.{Judged}
+use Rattle.rules.specs.Machine.{Given}
+use Rattle.rules.specs.Prelude.{ℕ, zero, suc, Bool, true, false, not, List, [], map, refl, sym, ap, subst, ltb, length, get_or, set, Env, Kind, Answer, Err, Ok, Line, None, Some, Act}
 use Rattle.rules.specs.Prelude.D
 use Rattle.rules.specs.When.{need}
 use Rattle.rules.specs.Answers.{answer, accepted}
@@ -39,8 +41,8 @@ goto_stops L l Γ = by_need Stops (refuse 11 Γ) (ltb l (length L) && covers L l
 
 return_stops : (k : Kind) (x : Judged) (Γ : Env) → Stops (rule_return k x Γ)
 unfolding rule_return
-return_stops k (No n) Γ = tt
-return_stops k (Ok l e) Γ = by_need Stops (refuse 6 Γ) (same_kind l k) _ tt (λ h. by_need Stops (refuse 10 Γ) (is_zero e.offset) (goes false Γ) tt (λ h. tt))
+return_stops k (Err n) Γ = tt
+return_stops k (Ok (l, e)) Γ = by_need Stops (refuse 6 Γ) (same_kind l k) _ tt (λ h. by_need Stops (refuse 10 Γ) (is_zero e.offset) (goes false Γ) tt (λ h. tt))
 
 end_stops : (P : Prog) (b : Bool) (Γ : Env) (st : Stmt) → T (is_end st) → Stops (line_of P b Γ st)
 unfolding line_of
@@ -86,9 +88,9 @@ abbrev pub Then : Prog → Entered → List Given → Store → Act → Type 0
 Then P E δ s D.Stuck = ⊥
 Then P E δ s D.Fall = GoodAt P E δ s
 Then P E δ s (D.Jump i) = Reaches P i δ s
-Then P E δ s (D.SetVar v d) = GoodAt P E (set δ v (Has d)) s
+Then P E δ s (D.SetVar v d) = GoodAt P E (set δ v (Some d)) s
 Then P E δ s (D.SetCell b o d) = GoodAt P E δ (set_cell s b o d)
-Then P E δ s (D.Give d) = Fits P.rows s P.ret loosest (Has d)
+Then P E δ s (D.Give d) = Fits P.rows s P.ret loosest (Some d)
 
 allowed : (n : ℕ) → n ≡ 0 → (P : Prog) (x : Line) (δ : List Given) (s : Store) (a : Act) → Promises n P x δ s a → After P x δ s a
 allowed zero e P x δ s a h = h
@@ -132,7 +134,7 @@ module _ (P : Prog) (Z : Sized P) where
   after_then : (body : List Stmt) (x : Line) (δ : List Given) (s : Store) → Acc P body x.live x.env → Named P body → (a : Act) → After P x δ s a → Then P (env_from P body x.live x.env zero) δ s a
   after_then body x δ s a n D.Fall h = first_good body x.live x.env δ s h.0 a n h.1
   after_then body x δ s a n (D.Jump i) h = h
-  after_then body x δ s a n (D.SetVar v d) h = first_good body x.live x.env (set δ v (Has d)) s h.0 a n h.1
+  after_then body x δ s a n (D.SetVar v d) h = first_good body x.live x.env (set δ v (Some d)) s h.0 a n h.1
   after_then body x δ s a n (D.SetCell b o d) h = first_good body x.live x.env δ (set_cell s b o d) h.0 a n h.1
   after_then body x δ s a n (D.Give d) h = h
   after_then body x δ s a n D.Stuck h = elim h [ ]
@@ -200,7 +202,7 @@ module _ (P : Prog) (Z : Sized P) where
 
 -- a machine before its first line
 abbrev pub before : List Given → Store → Machine
-before δ s = record { at = 0; steps = 0; value = Stuck; vals = δ; store = s }
+before δ s = record { at = 0; steps = 0; value = None; vals = δ; store = s }
 
 abbrev pub NotStuck : Act → Type 0
 NotStuck D.Stuck = ⊥
@@ -212,8 +214,8 @@ NotStuck (D.Give d) = Unit
 
 -- what was returned fits `ret` as `any,0,any`; a machine that has not returned does not get stuck at its line
 abbrev pub SafeValue : Prog → Machine → Given → Type 0
-SafeValue P m Stuck = NotStuck (decide P m.store m.vals m.at)
-SafeValue P m (Has d) = Fits P.rows m.store P.ret loosest (Has d)
+SafeValue P m None = NotStuck (decide P m.store m.vals m.at)
+SafeValue P m (Some d) = Fits P.rows m.store P.ret loosest (Some d)
 
 -- the store is sound and the variables fit the environment of the line
 pub record Safe (P : Prog) (m : Machine) : Type 0 where
@@ -222,8 +224,8 @@ pub record Safe (P : Prog) (m : Machine) : Type 0 where
 
 -- the same, without the promise that the next step is not stuck (it follows)
 abbrev pub FineValue : Prog → Store → Given → Type 0
-FineValue P s Stuck = Unit
-FineValue P s (Has d) = Fits P.rows s P.ret loosest (Has d)
+FineValue P s None = Unit
+FineValue P s (Some d) = Fits P.rows s P.ret loosest (Some d)
 
 pub record Fine (P : Prog) (m : Machine) : Type 0 where
   pub fits : GoodAt P (env_at P m.at) m.vals m.store
@@ -277,7 +279,7 @@ module _ (P : Prog) (Z : Sized P) (ok : check P ≡ accepted) where
       let q : T (is_label h.label (get_or P.body (label_at P.labels h.label).line bad_s)) = (and_both (ltb h.label (length P.labels)) (is_label h.label (get_or P.body (label_at P.labels h.label).line bad_s)) h.there).1 in
       at_label P Z P.body true (start_env P.vars) i h.label δ s (rw h.is at q) h.good
 
-  fine_step : (m : Machine) → m.value ≡ Stuck → GoodAt P (env_at P m.at) m.vals m.store → (a : Act) → Then P (env_at P (m.at + 1)) m.vals m.store a → Fine P (apply a m)
+  fine_step : (m : Machine) → m.value ≡ None → GoodAt P (env_at P m.at) m.vals m.store → (a : Act) → Then P (env_at P (m.at + 1)) m.vals m.store a → Fine P (apply a m)
   unfolding apply
   fine_step m e g D.Fall h = record { fits = h; value = rw e tt }
   fine_step m e g (D.Jump i) h = record { fits = lands i m.vals m.store h; value = rw e tt }
@@ -291,8 +293,8 @@ module _ (P : Prog) (Z : Sized P) (ok : check P ≡ accepted) where
   step_fine m f = go m.value refl
     where
       go : (g : Given) → m.value ≡ g → Fine P (step_from P m g)
-      go Stuck e = fine_step m e f.fits (decide P m.store m.vals m.at) (next m f.fits)
-      go (Has d) e = f
+      go None e = fine_step m e f.fits (decide P m.store m.vals m.at) (next m f.fits)
+      go (Some d) e = f
 
   run_fine : (n : ℕ) (m : Machine) → Fine P m → Fine P (run_of P n m)
   unfolding run_of
@@ -303,8 +305,8 @@ module _ (P : Prog) (Z : Sized P) (ok : check P ≡ accepted) where
   fine_safe m f = record { fits = f.fits; value = go m.value f.value }
     where
       go : (g : Given) → FineValue P m.store g → SafeValue P m g
-      go Stuck h = then_moves P (env_at P (m.at + 1)) m.vals m.store (decide P m.store m.vals m.at) (next m f.fits)
-      go (Has d) h = h
+      go None h = then_moves P (env_at P (m.at + 1)) m.vals m.store (decide P m.store m.vals m.at) (next m f.fits)
+      go (Some d) h = h
 
   -- from a store that is sound and variables that fit the start, no run is ever stuck
   pub sound : (δ : List Given) (s : Store) → Good P (start_env P.vars) δ s → (n : ℕ) → Safe P (run_of P n (before δ s))

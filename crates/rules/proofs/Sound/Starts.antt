@@ -5,7 +5,8 @@ use Rattle.std.proofs.Math.ListN.{length-set, length-replicate}
 use Rattle.std.proofs.Math.Seq.{get_or-set_same, get_or-set_other}
 use native.Mathlib.Omega.{arith as lin}
 use Rattle.std.specs.Prelude.{◌+◌, ◌*◌, ◌<◌, ◌≤◌, ◌∷◌, ◌++◌, ◌≡◌}
-use Rattle.rules.specs.Prelude.{ℕ, zero, suc, Bool, true, false, List, [], map, refl, ap, ◌∙◌, ltb, length, get_or, set, Num, Kind, Cint, Value, Answer, StoreCount, Given, Stuck, Has}
+use Rattle.rules.specs.Machine.{Given}
+use Rattle.rules.specs.Prelude.{ℕ, zero, suc, Bool, true, false, List, [], map, refl, ap, ◌∙◌, ltb, length, get_or, set, Num, Kind, Cint, Value, Answer, StoreCount, None, Some}
 use Rattle.rules.specs.When.{when, need}
 use Rattle.rules.specs.Numbers.{suits}
 use Rattle.rules.specs.Limits.{limits}
@@ -109,7 +110,7 @@ module _ (s : List ℕ) where
 -- ---- the arguments
 
 pub args_fit : (ρ : Rows) (s : Store) (D : List Var) (δ : List Given) → Each Zero (arg_numbers ρ s D δ) → length δ ≡ length D
-    → (v : ℕ) → v < length D → (get_or D v no_var).is_local ≡ false → T (fits ρ s (get_or D v no_var).kind loosest (get_or δ v Stuck))
+    → (v : ℕ) → v < length D → (get_or D v no_var).is_local ≡ false → T (fits ρ s (get_or D v no_var).kind loosest (get_or δ v None))
 unfolding arg_numbers
 args_fit ρ s [] δ h e v k l = absurd (omega lin)
 args_fit ρ s (d ∷ D) [] h e v k l = absurd (omega (lin, e))
@@ -123,11 +124,11 @@ args_fit ρ s (d ∷ D) (g ∷ δ) h e (suc v) k l = args_fit ρ s D δ (go d.is
 -- ---- the start
 
 -- a local's datum fits its entry, where its N suits
-local_fits : (ρ : Rows) (s : Store) (k : Kind) (n : Num) → Zero (local_ok ρ k n) → Fits ρ s k (local_entry k n) (Has (local_datum k n))
+local_fits : (ρ : Rows) (s : Store) (k : Kind) (n : Num) → Zero (local_ok ρ k n) → Fits ρ s k (local_entry k n) (Some (local_datum k n))
 local_fits ρ s Cint n h = refl
 local_fits ρ s (Value r) n h = record { loose = tt; still = refl; named = refl; suited = ((need_exactly 9 (suits (psi_of ρ r) n) 0 (omega lin)).0 h).0 }
 
-local_small : (k : Kind) (n : Num) → SmallN n → Small (Has (local_datum k n))
+local_small : (k : Kind) (n : Num) → SmallN n → Small (Some (local_datum k n))
 local_small Cint n h = h
 local_small (Value r) n h = h
 
@@ -185,11 +186,11 @@ module _ (T : Tables) (ok : check (program T) ≡ accepted) (s : List ℕ) (p : 
   unfolding store_fits
   numbers_zero = (each_append Zero (map (block_number P.rows σ) σ) (arg_numbers P.rows σ P.vars δ)).0 ((first_exactly 2 (map (block_number P.rows σ) σ ++ arg_numbers P.rows σ P.vars δ)).0 p.fits)
 
-  value_at : (v : ℕ) → v < length P.vars → get_or δ v Stuck ≡ datum_code (get_or filled.vals v 0)
+  value_at : (v : ℕ) → v < length P.vars → get_or δ v None ≡ datum_code (get_or filled.vals v 0)
   unfolding vals_of
-  value_at v h = tab_in (length P.vars) (λ i. datum_code (get_or filled.vals i 0)) v Stuck h
+  value_at v h = tab_in (length P.vars) (λ i. datum_code (get_or filled.vals i 0)) v None h
 
-  local_has : (v : ℕ) → v < length P.vars → (get_or P.vars v no_var).is_local ≡ true → get_or δ v Stuck ≡ Has (local_datum (get_or P.vars v no_var).kind (get_or P.vars v no_var).number)
+  local_has : (v : ℕ) → v < length P.vars → (get_or P.vars v no_var).is_local ≡ true → get_or δ v None ≡ Some (local_datum (get_or P.vars v no_var).kind (get_or P.vars v no_var).number)
   local_has v h l =
       value_at v h
       ∙ ap datum_code (local_written s P.vars p.count (vars_most T) v h l)
@@ -201,12 +202,12 @@ module _ (T : Tables) (ok : check (program T) ≡ accepted) (s : List ℕ) (p : 
       let m : length P.vars ≤ limits.variables = vars_most T in
       tab_in limits.variables (start_at P.vars) v no_entry (omega lin) ∙ rw (lt-ltb v (length P.vars) h)
 
-  start_fits : (v : ℕ) → v < length P.vars → (c : Bool) → (get_or P.vars v no_var).is_local ≡ c → Fits P.rows σ (get_or P.vars v no_var).kind (start_entry (get_or P.vars v no_var)) (get_or δ v Stuck)
+  start_fits : (v : ℕ) → v < length P.vars → (c : Bool) → (get_or P.vars v no_var).is_local ≡ c → Fits P.rows σ (get_or P.vars v no_var).kind (start_entry (get_or P.vars v no_var)) (get_or δ v None)
   unfolding local_line
   start_fits v h true l =
       let z : Zero (local_line P.rows (get_or P.vars v no_var)) = each_at (λ d. Zero (local_line P.rows d)) P.vars no_var (locals_zero P (program_sized T) ok) v h in
       rw (local_has v h l, l) (local_fits P.rows σ (get_or P.vars v no_var).kind (get_or P.vars v no_var).number (rw l at z))
-  start_fits v h false l = rw l (fits→ P.rows σ (get_or P.vars v no_var).kind loosest (get_or δ v Stuck) (args_fit P.rows σ P.vars δ numbers_zero.1 (vals_length (length P.vars) filled.vals) v h l))
+  start_fits v h false l = rw l (fits→ P.rows σ (get_or P.vars v no_var).kind loosest (get_or δ v None) (args_fit P.rows σ P.vars δ numbers_zero.1 (vals_length (length P.vars) filled.vals) v h l))
 
   pub start_good : Good P (start_env P.vars) δ σ
   unfolding kind_at start_env

@@ -4,7 +4,8 @@ use Rattle.std.proofs.Math.ListN.{length-set}
 use Rattle.std.proofs.Common.{get_or-set_same, get_or-set_other}
 use native.Mathlib.Omega.{arith as lin}
 use Rattle.std.specs.Prelude.{◌+◌, ◌-◌, ◌*◌, ◌/◌, ◌%◌, ◌<◌, ◌≤◌, ◌&&◌, ◌≡◌, ◌+ℤ◌}
-use Rattle.rules.specs.Prelude.{ℕ, zero, suc, Bool, true, false, not, List, refl, ap, ◌∙◌, ltb, eqb, ℤ, pos, negsuc, length, get_or, set, Num, Op, Datum, Int, Imm, Place, Given, Stuck, Has, Act}
+use Rattle.rules.specs.Machine.{Given}
+use Rattle.rules.specs.Prelude.{ℕ, zero, suc, Bool, true, false, not, List, refl, ap, ◌∙◌, ltb, eqb, ℤ, pos, negsuc, length, get_or, set, Num, Op, Datum, Int, Imm, Place, None, Some, Act}
 use Rattle.rules.specs.Prelude.D
 use Rattle.rules.specs.When.{when}
 use Rattle.rules.specs.Numbers.{eq_z, zero_n, same_num, num_code}
@@ -23,10 +24,10 @@ unfolding vals_of
 vals_set n W v c g h e =
     tab_set n (λ i. datum_code (get_or W i 0)) (λ i. datum_code (get_or (set W v c) i 0)) v g (rw (get_or-set_same W v c 0 h) e) (λ j k ne. ap datum_code (get_or-set_other W v j c 0 ne))
 
-module _ (Z H C : List ℕ) (b o c : ℕ) (d : Datum) (in_b : b < up_to limits.blocks (get_or Z 1 0)) (in_o : o < block_width) (in_c : b * block_width + o < length C) (e : datum_code c ≡ Has d) where
-  same_block : tab (up_to block_width (cell H head_width b 2)) (λ j. datum_code (cell (set C (b * block_width + o) c) block_width b j)) ≡ set (tab (up_to block_width (cell H head_width b 2)) (λ j. datum_code (cell C block_width b j))) o (Has d)
+module _ (Z H C : List ℕ) (b o c : ℕ) (d : Datum) (in_b : b < up_to limits.blocks (get_or Z 1 0)) (in_o : o < block_width) (in_c : b * block_width + o < length C) (e : datum_code c ≡ Some d) where
+  same_block : tab (up_to block_width (cell H head_width b 2)) (λ j. datum_code (cell (set C (b * block_width + o) c) block_width b j)) ≡ set (tab (up_to block_width (cell H head_width b 2)) (λ j. datum_code (cell C block_width b j))) o (Some d)
   same_block =
-      tab_set (up_to block_width (cell H head_width b 2)) (λ j. datum_code (cell C block_width b j)) (λ j. datum_code (cell (set C (b * block_width + o) c) block_width b j)) o (Has d)
+      tab_set (up_to block_width (cell H head_width b 2)) (λ j. datum_code (cell C block_width b j)) (λ j. datum_code (cell (set C (b * block_width + o) c) block_width b j)) o (Some d)
       (rw (get_or-set_same C (b * block_width + o) c 0 in_c) e)
       (λ j k ne. ap datum_code (get_or-set_other C (b * block_width + o) (b * block_width + j) c 0 (λ q. ne (omega (lin, q)))))
 
@@ -37,7 +38,7 @@ module _ (Z H C : List ℕ) (b o c : ℕ) (d : Datum) (in_b : b < up_to limits.b
       others : tab (up_to block_width (cell H head_width k 2)) (λ j. datum_code (cell (set C (b * block_width + o) c) block_width k j)) ≡ tab (up_to block_width (cell H head_width k 2)) (λ j. datum_code (cell C block_width k j))
       others = tab_ext (up_to block_width (cell H head_width k 2)) _ _ (λ j x. let y : up_to block_width (cell H head_width k 2) ≤ block_width = up_to_le block_width (cell H head_width k 2) in ap datum_code (get_or-set_other C (b * block_width + o) (k * block_width + j) c 0 (λ q. ne (omega (lin, q, in_o)))))
 
-  written : block_from H (set C (b * block_width + o) c) b ≡ record { row = (block_from H C b).row; tag = (block_from H C b).tag; cells = set (block_from H C b).cells o (Has d) }
+  written : block_from H (set C (b * block_width + o) c) b ≡ record { row = (block_from H C b).row; tag = (block_from H C b).tag; cells = set (block_from H C b).cells o (Some d) }
   unfolding block_from
   written = λ i. record { row = cell H head_width b 0 - 1; tag = cell H head_width b 1; cells = same_block i }
 
@@ -53,9 +54,9 @@ abbrev pub Bounded : Act → MTables → Type 0
 Bounded D.Stuck t = Unit
 Bounded D.Fall t = Unit
 Bounded (D.Jump i) t = Unit
-Bounded (D.SetVar v d) t = (v < length t.vals) × (datum_code (code_of d) ≡ Has d)
-Bounded (D.SetCell b o d) t = (b < up_to limits.blocks (get_or t.size 1 0)) × (o < block_width) × (b * block_width + o < length t.cells) × (datum_code (code_of d) ≡ Has d)
-Bounded (D.Give d) t = datum_code (code_of d) ≡ Has d
+Bounded (D.SetVar v d) t = (v < length t.vals) × (datum_code (code_of d) ≡ Some d)
+Bounded (D.SetCell b o d) t = (b < up_to limits.blocks (get_or t.size 1 0)) × (o < block_width) × (b * block_width + o < length t.cells) × (datum_code (code_of d) ≡ Some d)
+Bounded (D.Give d) t = datum_code (code_of d) ≡ Some d
 
 pub apply_tables : (P : Prog) (t : MTables) (a : Act) → Bounded a t → machine P (apply_t a t) ≡ apply a (machine P t)
 unfolding machine apply_t apply
@@ -63,7 +64,7 @@ apply_tables P t D.Stuck h = refl
 apply_tables P t D.Fall h = refl
 apply_tables P t (D.Jump i) h = refl
 apply_tables P t (D.SetVar v d) h =
-    let p = vals_set (length P.vars) t.vals v (code_of d) (Has d) h.0 h.1 in
+    let p = vals_set (length P.vars) t.vals v (code_of d) (Some d) h.0 h.1 in
     λ i. record { at = t.at + 1; steps = t.steps + 1; value = datum_code t.value; vals = p i; store = store_of t.size t.heads t.cells }
 apply_tables P t (D.SetCell b o d) h =
     let p = store_set t.size t.heads t.cells b o (code_of d) d h.0 h.1 h.2 h.3 in
@@ -159,34 +160,34 @@ body_small T i = tab_all SmallS _ (stmt_from T.nodes T.body) bad_s tt (λ j. lin
 
 arith_gives : (o : Op) (g h : Given) → Small (ev_arith o g h)
 unfolding ev_arith
-arith_gives o Stuck h = tt
-arith_gives o (Has (Imm n)) h = tt
-arith_gives o (Has (Place b i)) h = tt
-arith_gives o (Has (Int a)) Stuck = tt
-arith_gives o (Has (Int a)) (Has (Imm n)) = tt
-arith_gives o (Has (Int a)) (Has (Place b i)) = tt
-arith_gives o (Has (Int a)) (Has (Int c)) = arith_small o a c
+arith_gives o None h = tt
+arith_gives o (Some (Imm n)) h = tt
+arith_gives o (Some (Place b i)) h = tt
+arith_gives o (Some (Int a)) None = tt
+arith_gives o (Some (Int a)) (Some (Imm n)) = tt
+arith_gives o (Some (Int a)) (Some (Place b i)) = tt
+arith_gives o (Some (Int a)) (Some (Int c)) = arith_small o a c
 
 val_gives : (ρ : Rows) (r : ℕ) (g : Given) → Small g → Small (ev_val ρ r g)
 unfolding ev_val
-val_gives ρ r Stuck p = tt
-val_gives ρ r (Has (Int n)) p = by_need Small Stuck (row_there ρ r) (Has (Imm n)) tt (λ h. p)
-val_gives ρ r (Has (Imm n)) p = tt
-val_gives ρ r (Has (Place b o)) p = tt
+val_gives ρ r None p = tt
+val_gives ρ r (Some (Int n)) p = by_need Small None (row_there ρ r) (Some (Imm n)) tt (λ h. p)
+val_gives ρ r (Some (Imm n)) p = tt
+val_gives ρ r (Some (Place b o)) p = tt
 
 int_gives : (g : Given) → Small g → Small (ev_int g)
 unfolding ev_int
-int_gives Stuck p = tt
-int_gives (Has (Int n)) p = tt
-int_gives (Has (Imm n)) p = p
-int_gives (Has (Place b o)) p = tt
+int_gives None p = tt
+int_gives (Some (Int n)) p = tt
+int_gives (Some (Imm n)) p = p
+int_gives (Some (Place b o)) p = tt
 
 -- a place that lies inside, or nothing
 abbrev InsideOf : Store → Given → Type 0
-InsideOf s Stuck = Unit
-InsideOf s (Has (Int n)) = ⊥
-InsideOf s (Has (Imm n)) = ⊥
-InsideOf s (Has (Place b o)) = (b < length s) × (o < cells_in s b)
+InsideOf s None = Unit
+InsideOf s (Some (Int n)) = ⊥
+InsideOf s (Some (Imm n)) = ⊥
+InsideOf s (Some (Place b o)) = (b < length s) × (o < cells_in s b)
 
 module _ (t : MTables) where
   abbrev σ : Store
@@ -202,7 +203,7 @@ module _ (t : MTables) where
 
   cell_small : (b o : ℕ) → Small (cell_at σ b o)
   unfolding store_of cell_at block_from
-  cell_small b o = tab_all (λ K. Small (get_or K.cells o Stuck)) _ (block_from t.heads t.cells) no_block tt (λ k. tab_all Small _ _ Stuck tt (λ j. datum_small (cell t.cells block_width k j)) o) b
+  cell_small b o = tab_all (λ K. Small (get_or K.cells o None)) _ (block_from t.heads t.cells) no_block tt (λ k. tab_all Small _ _ None tt (λ j. datum_small (cell t.cells block_width k j)) o) b
 
   -- where a place lies inside
   inside_facts : (b o : ℕ) → T (inside σ b o) → (b < length σ) × (o < cells_in σ b)
@@ -212,33 +213,33 @@ module _ (t : MTables) where
 
   moved_inside : (b : ℕ) (z : ℤ) → InsideOf σ (moved σ b z)
   unfolding moved
-  moved_inside b (pos o) = by_need (InsideOf σ) Stuck (inside σ b o) (Has (Place b o)) tt (λ h. inside_facts b o h)
+  moved_inside b (pos o) = by_need (InsideOf σ) None (inside σ b o) (Some (Place b o)) tt (λ h. inside_facts b o h)
   moved_inside b (negsuc o) = tt
 
   moved_small : (g : Given) → InsideOf σ g → Small g
-  moved_small Stuck h = tt
-  moved_small (Has (Place b o)) h = let x : cells_in σ b ≤ block_width = width_most b in let y : o < cells_in σ b = h.1 in omega lin
-  moved_small (Has (Int _)) h = elim h [ ]
-  moved_small (Has (Imm _)) h = elim h [ ]
+  moved_small None h = tt
+  moved_small (Some (Place b o)) h = let x : cells_in σ b ≤ block_width = width_most b in let y : o < cells_in σ b = h.1 in omega lin
+  moved_small (Some (Int _)) h = elim h [ ]
+  moved_small (Some (Imm _)) h = elim h [ ]
 
   fetch_gives : (g : Given) → Small (ev_fetch σ g)
   unfolding ev_fetch
-  fetch_gives Stuck = tt
-  fetch_gives (Has (Int n)) = tt
-  fetch_gives (Has (Imm n)) = tt
-  fetch_gives (Has (Place b o)) = by_need Small Stuck (inside σ b o) (cell_at σ b o) tt (λ h. cell_small b o)
+  fetch_gives None = tt
+  fetch_gives (Some (Int n)) = tt
+  fetch_gives (Some (Imm n)) = tt
+  fetch_gives (Some (Place b o)) = by_need Small None (inside σ b o) (cell_at σ b o) tt (λ h. cell_small b o)
 
   step_gives : (g h : Given) → Small (ev_step σ g h)
   unfolding ev_step
-  step_gives Stuck h = tt
-  step_gives (Has (Int n)) h = tt
-  step_gives (Has (Imm n)) h = tt
-  step_gives (Has (Place b o)) Stuck = tt
-  step_gives (Has (Place b o)) (Has (Imm n)) = tt
-  step_gives (Has (Place b o)) (Has (Place c i)) = tt
-  step_gives (Has (Place b o)) (Has (Int m)) = moved_small (moved σ b (pos o +ℤ m.n)) (moved_inside b (pos o +ℤ m.n))
+  step_gives None h = tt
+  step_gives (Some (Int n)) h = tt
+  step_gives (Some (Imm n)) h = tt
+  step_gives (Some (Place b o)) None = tt
+  step_gives (Some (Place b o)) (Some (Imm n)) = tt
+  step_gives (Some (Place b o)) (Some (Place c i)) = tt
+  step_gives (Some (Place b o)) (Some (Int m)) = moved_small (moved σ b (pos o +ℤ m.n)) (moved_inside b (pos o +ℤ m.n))
 
-  module _ (P : Prog) (δ : List Given) (hold : (v : ℕ) → Small (get_or δ v Stuck)) where
+  module _ (P : Prog) (δ : List Given) (hold : (v : ℕ) → Small (get_or δ v None)) where
     eval_small : (x : Expr) → SmallE x → Small (eval P.rows σ δ x)
     unfolding eval ev_var
     eval_small bad p = tt
@@ -264,8 +265,8 @@ module _ (t : MTables) where
     module _ (R : Roomy t) (fits : length δ ≤ limits.variables) where
       set_stays : (v : ℕ) (g : Given) → Small g → Stays (act_set δ v g)
       unfolding act_set
-      set_stays v Stuck p = tt
-      set_stays v (Has d) p =
+      set_stays v None p = tt
+      set_stays v (Some d) p =
           by_need Stays D.Stuck (ltb v (length δ)) (D.SetVar v d) tt
           (λ h. let x : v < length δ = ltb→lt v (length δ) h in let y : length t.vals ≡ limits.variables = R.vals in (omega lin, datum_again d p))
 
@@ -278,55 +279,55 @@ module _ (t : MTables) where
           (x, omega lin, omega lin)
 
       store_stays : (b o : ℕ) → b < length σ → o < cells_in σ b → (y : Given) → Small y → Stays (store_at b o y)
-      store_stays b o h k Stuck p = tt
-      store_stays b o h k (Has (Int n)) p = tt
-      store_stays b o h k (Has (Imm n)) p = let (x, y, z) = room b o h k in (x, y, z, datum_again (Imm n) p)
-      store_stays b o h k (Has (Place c i)) p = let (x, y, z) = room b o h k in (x, y, z, datum_again (Place c i) p)
+      store_stays b o h k None p = tt
+      store_stays b o h k (Some (Int n)) p = tt
+      store_stays b o h k (Some (Imm n)) p = let (x, y, z) = room b o h k in (x, y, z, datum_again (Imm n) p)
+      store_stays b o h k (Some (Place c i)) p = let (x, y, z) = room b o h k in (x, y, z, datum_again (Place c i) p)
 
       put_stays : (m : Num) (x y : Given) → Small y → Stays (act_put σ m x y)
       unfolding act_put
-      put_stays m Stuck y p = tt
-      put_stays m (Has (Int n)) y p = tt
-      put_stays m (Has (Imm n)) y p = tt
-      put_stays m (Has (Place b o)) y p = go (moved σ b (pos o +ℤ m.n)) (moved_inside b (pos o +ℤ m.n))
+      put_stays m None y p = tt
+      put_stays m (Some (Int n)) y p = tt
+      put_stays m (Some (Imm n)) y p = tt
+      put_stays m (Some (Place b o)) y p = go (moved σ b (pos o +ℤ m.n)) (moved_inside b (pos o +ℤ m.n))
         where
           go : (g : Given) → InsideOf σ g → Stays (need_place D.Stuck g (λ c i. store_at c i y))
-          go Stuck h = tt
-          go (Has (Place c i)) h = store_stays c i h.0 h.1 y p
-          go (Has (Int _)) h = elim h [ ]
-          go (Has (Imm _)) h = elim h [ ]
+          go None h = tt
+          go (Some (Place c i)) h = store_stays c i h.0 h.1 y p
+          go (Some (Int _)) h = elim h [ ]
+          go (Some (Imm _)) h = elim h [ ]
 
       if_stays : (l : ℕ) (g : Given) → Stays (act_if P l g)
       unfolding act_if
-      if_stays l Stuck = tt
-      if_stays l (Has (Int n)) = jump_stays l (not (same_num n zero_n))
-      if_stays l (Has (Imm n)) = tt
-      if_stays l (Has (Place b o)) = tt
+      if_stays l None = tt
+      if_stays l (Some (Int n)) = jump_stays l (not (same_num n zero_n))
+      if_stays l (Some (Imm n)) = tt
+      if_stays l (Some (Place b o)) = tt
 
       iftag_stays : (l : ℕ) (n : Num) (g : Given) → Stays (act_iftag P σ l n g)
       unfolding act_iftag
-      iftag_stays l n Stuck = tt
-      iftag_stays l n (Has (Int m)) = tt
-      iftag_stays l n (Has (Imm m)) = tt
-      iftag_stays l n (Has (Place b o)) = by_need Stays D.Stuck (eqb o 0 && ltb b (length σ)) (jump_on P l (eq_z (pos (tag_in σ b)) n.n)) tt (λ h. jump_stays l (eq_z (pos (tag_in σ b)) n.n))
+      iftag_stays l n None = tt
+      iftag_stays l n (Some (Int m)) = tt
+      iftag_stays l n (Some (Imm m)) = tt
+      iftag_stays l n (Some (Place b o)) = by_need Stays D.Stuck (eqb o 0 && ltb b (length σ)) (jump_on P l (eq_z (pos (tag_in σ b)) n.n)) tt (λ h. jump_stays l (eq_z (pos (tag_in σ b)) n.n))
 
       ifint_stays : (l : ℕ) (n : Num) (g : Given) → Stays (act_ifint P l n g)
       unfolding act_ifint
-      ifint_stays l n Stuck = tt
-      ifint_stays l n (Has (Int m)) = tt
-      ifint_stays l n (Has (Imm m)) = jump_stays l (same_num m n)
-      ifint_stays l n (Has (Place b o)) = tt
+      ifint_stays l n None = tt
+      ifint_stays l n (Some (Int m)) = tt
+      ifint_stays l n (Some (Imm m)) = jump_stays l (same_num m n)
+      ifint_stays l n (Some (Place b o)) = tt
 
       ifimm_stays : (l : ℕ) (g : Given) → Stays (act_ifimm P l g)
       unfolding act_ifimm
-      ifimm_stays l Stuck = tt
-      ifimm_stays l (Has (Int n)) = tt
-      ifimm_stays l (Has (Imm n)) = jump_stays l true
-      ifimm_stays l (Has (Place b o)) = jump_stays l false
+      ifimm_stays l None = tt
+      ifimm_stays l (Some (Int n)) = tt
+      ifimm_stays l (Some (Imm n)) = jump_stays l true
+      ifimm_stays l (Some (Place b o)) = jump_stays l false
 
       return_stays : (g : Given) → Small g → Stays (act_return g)
-      return_stays Stuck p = tt
-      return_stays (Has d) p = datum_again d p
+      return_stays None p = tt
+      return_stays (Some d) p = datum_again d p
 
       act_stays : (st : Stmt) → SmallS st → Stays (act P σ δ st)
       unfolding act
@@ -344,9 +345,9 @@ module _ (t : MTables) where
 -- ---- steps and runs
 
 -- the variables of the machine that tables mean
-vals_small : (n : ℕ) (W : List ℕ) (v : ℕ) → Small (get_or (vals_of n W) v Stuck)
+vals_small : (n : ℕ) (W : List ℕ) (v : ℕ) → Small (get_or (vals_of n W) v None)
 unfolding vals_of
-vals_small n W v = tab_all Small n _ Stuck tt (λ i. datum_small (get_or W i 0)) v
+vals_small n W v = tab_all Small n _ None tt (λ i. datum_small (get_or W i 0)) v
 
 pub vals_length : (n : ℕ) (W : List ℕ) → length (vals_of n W) ≡ n
 unfolding vals_of
@@ -373,8 +374,8 @@ module _ (T : Tables) where
   step_tables t R = go (datum_code t.value)
     where
       go : (g : Given) → machine P (step_from_t P t g) ≡ step_from P (machine P t) g
-      go Stuck = apply_tables P t (decide P (store_of t.size t.heads t.cells) (vals_of (length P.vars) t.vals) t.at) (decided_stays t R)
-      go (Has d) = refl
+      go None = apply_tables P t (decide P (store_of t.size t.heads t.cells) (vals_of (length P.vars) t.vals) t.at) (decided_stays t R)
+      go (Some d) = refl
 
   -- and keeps the lengths
   apply_roomy : (a : Act) (t : MTables) → Roomy t → Roomy (apply_t a t)
@@ -391,8 +392,8 @@ module _ (T : Tables) where
   step_roomy t R = go (datum_code t.value)
     where
       go : (g : Given) → Roomy (step_from_t P t g)
-      go Stuck = apply_roomy _ t R
-      go (Has d) = R
+      go None = apply_roomy _ t R
+      go (Some d) = R
 
   -- a run on tables is a run on what they mean
   pub run_tables : (n : ℕ) (t : MTables) → Roomy t → machine P (run_t P n t) ≡ run_of P n (machine P t)

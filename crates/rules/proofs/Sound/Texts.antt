@@ -2,7 +2,8 @@
 use Rattle.std.proofs.Common.{arith as lin}
 use Rattle.std.specs.Prelude.{T}
 use Rattle.std.specs.Prelude.{◌+◌, ◌<◌, ◌≡◌}
-use Rattle.rules.specs.Prelude.{ℕ, List, refl, sym, ap, subst, ◌∙◌, length, get_or, Given, Stuck, Has, Act}
+use Rattle.rules.specs.Machine.{Given}
+use Rattle.rules.specs.Prelude.{ℕ, List, refl, sym, ap, subst, ◌∙◌, length, get_or, None, Some, Act}
 use Rattle.rules.specs.Prelude.D
 use Rattle.rules.specs.Prelude.S
 use Rattle.rules.specs.Answers.{accepted}
@@ -36,12 +37,12 @@ moves D.Stuck h = elim h [ ]
 
 goes_on : (P : Prog) (m : Machine) (g : Given) → m.value ≡ g → SafeValue P m g → GoesOn P m g
 unfolding says
-goes_on P m Stuck e h = rw e (moves (decide P m.store m.vals m.at) h)
-goes_on P m (Has d) e h = →fits P.rows m.store P.ret loosest (Has d) h
+goes_on P m None e h = rw e (moves (decide P m.store m.vals m.at) h)
+goes_on P m (Some d) e h = →fits P.rows m.store P.ret loosest (Some d) h
 
 variables_fit : (P : Prog) (m : Machine) (E : Entered) → GoodAt P E m.vals m.store → VariablesFit P m E
 variables_fit P m unreached h = h
-variables_fit P m (entered Γ) h = λ v k. →fits P.rows m.store (kind_at P.vars v) (get_or Γ.entries v no_entry) (get_or m.vals v Stuck) (h.vars.each v k)
+variables_fit P m (entered Γ) h = λ v k. →fits P.rows m.store (kind_at P.vars v) (get_or Γ.entries v no_entry) (get_or m.vals v None) (h.vars.each v k)
 
 pub not_wrong : (P : Prog) (from m : Machine) → Safe P m → SameBlocks from.store m.store → NotWrong P from m
 not_wrong P from m h k = record { goes_on = goes_on P m m.value refl h.value; variables = variables_fit P m (env_at P m.at) h.fits; blocks = k }
@@ -69,11 +70,11 @@ module _ (T : Tables) (ok : check (program T) ≡ accepted) (s : List ℕ) (p : 
   never_wrong n = rw (ran n) (not_wrong P (machine P first) (run_of P n (machine P first)) (safe n) (run_same P n (machine P first)))
 
   -- until the return the count is the number of steps
-  counts : (n : ℕ) → (machine P (run_t P n first)).value ≡ Stuck → (machine P (run_t P n first)).steps ≡ n
+  counts : (n : ℕ) → (machine P (run_t P n first)).value ≡ None → (machine P (run_t P n first)).steps ≡ n
   counts n = rw (ran n) (λ e. count_until_return P n (machine P first) moving e ∙ started)
     where
-      moving : (k : ℕ) → k < n → (run_of P k (machine P first)).value ≡ Stuck → says P (run_of P k (machine P first)) ≡ S.Moved
-      moving k l q = goes_on P (run_of P k (machine P first)) Stuck q (subst (λ (g : Given). SafeValue P (run_of P k (machine P first)) g) q (safe k).value)
+      moving : (k : ℕ) → k < n → (run_of P k (machine P first)).value ≡ None → says P (run_of P k (machine P first)) ≡ S.Moved
+      moving k l q = goes_on P (run_of P k (machine P first)) None q (subst (λ (g : Given). SafeValue P (run_of P k (machine P first)) g) q (safe k).value)
 
       started : (machine P first).steps + n ≡ n
       started = let z : (machine P first).steps ≡ 0 = ap (λ (m : Machine). m.steps) starts_before in omega lin
@@ -92,8 +93,8 @@ pub passed_never_wrong : (T : Tables) → check (program T) ≡ accepted → (s 
 passed_never_wrong = from_read (λ P t. (n : ℕ) → NotWrong P (machine P t) (machine P (run_t P n t))) never_wrong
 
 pub passed_counts : (T : Tables) → check (program T) ≡ accepted → (s : List ℕ) → (read_store (program T) s).answer ≡ accepted
-    → (n : ℕ) → (machine (program T) (run_t (program T) n (start (read_store (program T) s).tables))).value ≡ Stuck → (machine (program T) (run_t (program T) n (start (read_store (program T) s).tables))).steps ≡ n
-passed_counts = from_read (λ P t. (n : ℕ) → (machine P (run_t P n t)).value ≡ Stuck → (machine P (run_t P n t)).steps ≡ n) counts
+    → (n : ℕ) → (machine (program T) (run_t (program T) n (start (read_store (program T) s).tables))).value ≡ None → (machine (program T) (run_t (program T) n (start (read_store (program T) s).tables))).steps ≡ n
+passed_counts = from_read (λ P t. (n : ℕ) → (machine P (run_t P n t)).value ≡ None → (machine P (run_t P n t)).steps ≡ n) counts
 
 -- an accepted text's tables hold an accepted program
 pub accepted_check : (glue : List ℕ) → verdict glue ≡ accepted → check (program (checked glue).tables) ≡ accepted

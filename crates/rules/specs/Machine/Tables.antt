@@ -1,7 +1,8 @@
 -- The machine's tables: what they mean, and a step that alters them where they stand. Assumes nothing.
 -- A datum is one number: its high half 0 nothing, 1 C int, 2 immediate, k + 3 a place in block k; its low half the number's word, or the offset.
 use Rattle.std.specs.Prelude.{◌+◌, ◌-◌, ◌*◌, ◌/◌, ◌%◌}
-use Rattle.rules.specs.Prelude.{ℕ, zero, suc, Bool, List, leb, eqb, length, get_or, set, Datum, Int, Imm, Place, Given, Stuck, Has, Act, Stepped}
+use Rattle.rules.specs.Machine.{Given}
+use Rattle.rules.specs.Prelude.{ℕ, zero, suc, Bool, List, leb, eqb, length, get_or, set, Datum, Int, Imm, Place, None, Some, Act, Stepped}
 use Rattle.rules.specs.Prelude.D
 use Rattle.rules.specs.Prelude.S
 use Rattle.rules.specs.When.{One, when}
@@ -15,12 +16,12 @@ use Rattle.rules.specs.Machine.{machines, decide, Block, Store, Machine, says}
 unfoldable pub datum_code : ℕ → Given
 datum_code c =
     when (eqb (c / 4294967296) 0)
-    (λ _. Stuck)
+    (λ _. None)
     (λ _. when (eqb (c / 4294967296) 1)
-    (λ _. Has (Int (num_code (c % 4294967296))))
+    (λ _. Some (Int (num_code (c % 4294967296))))
     (λ _. when (eqb (c / 4294967296) 2)
-    (λ _. Has (Imm (num_code (c % 4294967296))))
-    (λ _. Has (Place (c / 4294967296 - 3) (c % 4294967296)))))
+    (λ _. Some (Imm (num_code (c % 4294967296))))
+    (λ _. Some (Place (c / 4294967296 - 3) (c % 4294967296)))))
 
 unfoldable pub code_of : Datum → ℕ
 code_of (Int n) = 1 * 4294967296 + word_of n
@@ -72,8 +73,8 @@ apply_t (D.SetCell b o d) t = moves_t t t.vals (set t.cells (b * block_width + o
 apply_t (D.Give d) t = moves_t t t.vals t.cells t.at (code_of d)
 
 abbrev pub step_from_t : Prog → MTables → Given → MTables
-step_from_t P t Stuck = apply_t (decide P (store_of t.size t.heads t.cells) (vals_of (length P.vars) t.vals) t.at) t
-step_from_t P t (Has d) = t
+step_from_t P t None = apply_t (decide P (store_of t.size t.heads t.cells) (vals_of (length P.vars) t.vals) t.at) t
+step_from_t P t (Some d) = t
 
 unfoldable pub step_t : Prog → MTables → MTables
 step_t P t = step_from_t P t (datum_code t.value)

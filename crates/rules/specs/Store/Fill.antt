@@ -1,6 +1,7 @@
 -- The store text, of a right shape: what it names (24), and what it writes into the tables. Each is a pass over the text. Assumes nothing.
 use Rattle.std.specs.Prelude.{◌+◌, ◌*◌, ◌&&◌, ◌∷◌}
-use Rattle.rules.specs.Prelude.{ℕ, zero, suc, Bool, true, false, List, [], ltb, eqb, set, drop, replicate, Num, Kind, Cint, Value, Answer, Reading, StoreCount, Datum, Int, Imm}
+use Rattle.rules.specs.Text.Words.{Reading}
+use Rattle.rules.specs.Prelude.{ℕ, zero, suc, Bool, true, false, List, [], ltb, eqb, set, drop, replicate, Num, Kind, Cint, Value, Answer, StoreCount, Datum, Int, Imm}
 use Rattle.rules.specs.When.{One, need, when}
 use Rattle.rules.specs.Limits.{limits}
 use Rattle.rules.specs.Answers.{first}

@@ -1,6 +1,7 @@
 -- The store text: 22 and 23 line by line, 22 first. Nothing is kept but counts. Assumes nothing.
 use Rattle.std.specs.Prelude.{◌+◌, ◌*◌, ◌&&◌, ◌||◌}
-use Rattle.rules.specs.Prelude.{ℕ, zero, suc, Bool, List, ltb, leb, eqb, length, Answer, Reading, Got, Bad, StoreCount}
+use Rattle.rules.specs.Text.Words.{Reading}
+use Rattle.rules.specs.Prelude.{ℕ, zero, suc, Bool, List, ltb, leb, eqb, length, Answer, Ok, Err, StoreCount}
 use Rattle.rules.specs.When.{One, when}
 use Rattle.rules.specs.Bytes.{bytes}
 use Rattle.rules.specs.Limits.{limits}
@@ -10,20 +11,20 @@ use Rattle.rules.specs.Text.Words.{words, byte_at, plain_at, number_at, or_word}
 -- ---- data: `cN`, `iN`, `bK` as they stand in a table (a place has offset 0)
 
 abbrev pub datum_of : ℕ → Reading → Reading
-datum_of base (Got w n) = Got (base + w) n
-datum_of base (Bad p) = Bad p
+datum_of base (Ok (w, n)) = Ok (base + w, n)
+datum_of base (Err p) = Err p
 
 -- the high half of a place is k + 3
 abbrev pub place_of : Reading → Reading
-place_of (Got k n) = Got ((k + 3) * 4294967296) n
-place_of (Bad p) = Bad p
+place_of (Ok (k, n)) = Ok ((k + 3) * 4294967296, n)
+place_of (Err p) = Err p
 
 -- a cell: `iN` or `bK`
 unfoldable pub cell_word : List ℕ → ℕ → Reading
 cell_word s at =
     when (eqb (byte_at s at) 105)
     (λ _. datum_of 8589934592 (number_at s (at + 1)))
-    (λ _. when (eqb (byte_at s at) 98) (λ _. place_of (plain_at s (at + 1))) (λ _. Bad at))
+    (λ _. when (eqb (byte_at s at) 98) (λ _. place_of (plain_at s (at + 1))) (λ _. Err at))
 
 -- an argument: `cN`, `iN` or `bK`
 unfoldable pub arg_word : List ℕ → ℕ → Reading
@@ -33,17 +34,17 @@ arg_word s at = when (eqb (byte_at s at) 99) (λ _. datum_of 4294967296 (number_
 
 -- how many cells, each after a space but the first
 abbrev pub cells_on : List ℕ → (ℕ → ℕ → Reading) → ℕ → Reading → Reading
-cells_on s rest n (Bad p) = Bad p
-cells_on s rest n (Got w m) = when (eqb (byte_at s m) 32) (λ _. rest (n + 1) (m + 1)) (λ _. Got (n + 1) m)
+cells_on s rest n (Err p) = Err p
+cells_on s rest n (Ok (w, m)) = when (eqb (byte_at s m) 32) (λ _. rest (n + 1) (m + 1)) (λ _. Ok (n + 1, m))
 
 unfoldable pub cells_from : List ℕ → ℕ → ℕ → ℕ → Reading
-cells_from s zero n at = Bad at
+cells_from s zero n at = Err at
 cells_from s (suc left) n at = cells_on s (cells_from s left) n (cell_word s at)
 
 -- what was read after a space
 abbrev pub spaced : List ℕ → (ℕ → Reading) → Reading → Reading
-spaced s go (Bad p) = Bad p
-spaced s go (Got w n) = when (eqb (byte_at s n) 32) (λ _. go (n + 1)) (λ _. Bad n)
+spaced s go (Err p) = Err p
+spaced s go (Ok (w, n)) = when (eqb (byte_at s n) 32) (λ _. go (n + 1)) (λ _. Err n)
 
 -- R TAG CELLS: how many cells
 unfoldable pub block_words : List ℕ → ℕ → Reading
@@ -51,7 +52,7 @@ block_words s at = spaced s (λ n. spaced s (cells_from s (length s) 0) (number_
 
 -- 1 run=, 2 block=, 3 arg=
 unfoldable pub store_key : List ℕ → ℕ → Reading
-store_key s at = or_word s at (bytes "arg=") 3 (or_word s at (bytes "block=") 2 (or_word s at (bytes "run=") 1 (Bad at)))
+store_key s at = or_word s at (bytes "arg=") 3 (or_word s at (bytes "block=") 2 (or_word s at (bytes "run=") 1 (Err at)))
 
 -- one `run=`, then blocks, then as many arguments as there are parameters
 unfoldable pub store_order : ℕ → StoreCount → ℕ → Bool
@@ -84,12 +85,12 @@ abbrev pub store_limits : ℕ → StoreCount → StoreLine
 store_limits n c = when (within c) (λ _. store_line 0 n c) (λ _. store_line 23 n c)
 
 abbrev pub store_shaped : List ℕ → StoreCount → ℕ → Reading → StoreLine
-store_shaped s c k (Bad p) = store_line 22 p c
-store_shaped s c k (Got v n) = when (eqb (byte_at s n) 10) (λ _. store_limits (n + 1) (counted c k v)) (λ _. store_line 22 n c)
+store_shaped s c k (Err p) = store_line 22 p c
+store_shaped s c k (Ok (v, n)) = when (eqb (byte_at s n) 10) (λ _. store_limits (n + 1) (counted c k v)) (λ _. store_line 22 n c)
 
 abbrev pub store_keyed : List ℕ → ℕ → ℕ → StoreCount → Reading → StoreLine
-store_keyed s params start c (Bad p) = store_line 22 p c
-store_keyed s params start c (Got k n) = when (store_order params c k) (λ _. store_shaped s c k (store_words s k n)) (λ _. store_line 22 start c)
+store_keyed s params start c (Err p) = store_line 22 p c
+store_keyed s params start c (Ok (k, n)) = when (store_order params c k) (λ _. store_shaped s c k (store_words s k n)) (λ _. store_line 22 start c)
 
 unfoldable pub store_line_at : List ℕ → ℕ → ℕ → StoreCount → StoreLine
 store_line_at s params at c = store_keyed s params at c (store_key s at)

@@ -1,7 +1,8 @@
 -- The glue text: what each line of a right shape writes into the tables, and the limits that it may pass (3). Assumes nothing.
-use Rattle.std.specs.Prelude.{◌+◌, ◌*◌, ◌&&◌}
-use Rattle.rules.specs.Prelude.{ℕ, zero, suc, Bool, true, false, List, ltb, eqb, set, Reading, Got, Bad, Head, Node, Not, Filling, Count}
-use Rattle.rules.specs.Prelude.F
+use Rattle.std.specs.Prelude.{◌+◌, ◌*◌, ◌&&◌, Some, None}
+use Rattle.rules.specs.Text.Words.{Reading}
+use Rattle.rules.specs.Text.Words.{Head}
+use Rattle.rules.specs.Prelude.{ℕ, zero, suc, Bool, true, false, List, ltb, eqb, set, Ok, Err, Count, Option}
 use Rattle.rules.specs.When.{One, when}
 use Rattle.rules.specs.Limits.{limits}
 use Rattle.rules.specs.Text.Words.{byte_at, value_of, next_of, plain_at, number_at, var_at, arity, head_at}
@@ -14,39 +15,43 @@ pub data Filled : Type 0 where
 
 -- ---- expressions: each node before its operands
 
+-- after an expression was written: the next byte and the next free node; nothing where a limit is passed
+abbrev pub Filling : Type 0
+Filling = Option (ℕ × ℕ)
+
 pub data Out : Type 0 where
   out : Filling → List ℕ → Out
 
 abbrev pub onward : Out → (ℕ → ℕ → List ℕ → Out) → Out
-onward (out (F.Got n free) N) go = go n free N
-onward (out F.Limit N) go = out F.Limit N
+onward (out (Some (n, free)) N) go = go n free N
+onward (out None N) go = out None N
 
 -- n operands, each after a space
 unfoldable pub operands : (ℕ → ℕ → List ℕ → Out) → ℕ → ℕ → ℕ → List ℕ → Out
-operands one zero at free N = out (F.Got at free) N
+operands one zero at free N = out (Some (at, free)) N
 operands one (suc n) at free N = onward (one (at + 1) free N) (operands one n)
 
 abbrev pub node : (ℕ → ℕ → List ℕ → Out) → Head → ℕ → List ℕ → Out
-node one (Not p) free N = out F.Limit N
-node one (Node op a n) free N =
+node one (Err p) free N = out None N
+node one (Ok (op, a, n)) free N =
     when (ltb free limits.nodes)
     (λ _. operands one (arity op) n (free + 1) (set N free (op * 4294967296 + a)))
-    (λ _. out F.Limit N)
+    (λ _. out None N)
 
 -- an expression that nests to the depth at most
 unfoldable pub expression : List ℕ → ℕ → ℕ → ℕ → List ℕ → Out
-expression s zero at free N = out F.Limit N
+expression s zero at free N = out None N
 expression s (suc depth) at free N = node (expression s depth) (head_at s at) free N
 
 -- ---- kinds: 1 int, r + 2 a value of row r
 
 abbrev pub kind_value : List ℕ → Reading → ℕ
-kind_value s (Bad p) = 0
-kind_value s (Got k n) = when (eqb k 0) (λ _. 1) (λ _. value_of (plain_at s n) + 2)
+kind_value s (Err p) = 0
+kind_value s (Ok (k, n)) = when (eqb k 0) (λ _. 1) (λ _. value_of (plain_at s n) + 2)
 
 abbrev pub kind_next : List ℕ → Reading → ℕ
-kind_next s (Bad p) = p
-kind_next s (Got k n) = when (eqb k 0) (λ _. n) (λ _. next_of (plain_at s n))
+kind_next s (Err p) = p
+kind_next s (Ok (k, n)) = when (eqb k 0) (λ _. n) (λ _. next_of (plain_at s n))
 
 -- ret=
 unfoldable pub fill_ret : List ℕ → ℕ → Count → Tables → Filled
@@ -118,16 +123,16 @@ plain_line c t kind l v w = add_line c t c.nodes kind l v w 0
 
 -- a line whose expressions were written
 abbrev pub expr_line : Count → Tables → ℕ → ℕ → ℕ → ℕ → Out → Filled
-expr_line c t kind l v w (out (F.Got n free) N) = add_line c (with_nodes t N) free kind l v w c.nodes
-expr_line c t kind l v w (out F.Limit N) = filled false c (with_nodes t N)
+expr_line c t kind l v w (out (Some (n, free)) N) = add_line c (with_nodes t N) free kind l v w c.nodes
+expr_line c t kind l v w (out None N) = filled false c (with_nodes t N)
 
 unfoldable pub fill_set : List ℕ → ℕ → Count → Tables → Filled
 fill_set s at c t = expr_line c t 1 0 (value_of (var_at s at)) 0 (expression s limits.depth (next_of (var_at s at) + 1) c.nodes t.nodes)
 
 -- the second E, after the N that stands after the first
 abbrev pub fill_put_two : List ℕ → Count → Tables → Out → Filled
-fill_put_two s c t (out F.Limit N) = filled false c (with_nodes t N)
-fill_put_two s c t (out (F.Got n free) N) = expr_line c t 2 0 0 (value_of (number_at s (n + 1))) (expression s limits.depth (next_of (number_at s (n + 1)) + 1) free N)
+fill_put_two s c t (out None N) = filled false c (with_nodes t N)
+fill_put_two s c t (out (Some (n, free)) N) = expr_line c t 2 0 0 (value_of (number_at s (n + 1))) (expression s limits.depth (next_of (number_at s (n + 1)) + 1) free N)
 
 unfoldable pub fill_put : List ℕ → ℕ → Count → Tables → Filled
 fill_put s at c t = fill_put_two s c t (expression s limits.depth at c.nodes t.nodes)

@@ -5,4 +5,4 @@ use Rattle.tally.proofs.Laws.{key_reads}
 use Rattle.tally.proofs.line_at.Goals as goal
 
 pub keyed_line-requires : goal.keyed_line-requires
-keyed_line-requires c = (c.requires.0, (c.requires.1, (got (key_reads c.args.s.now c.args.at) (sym c.in-Got.ensures)).low))
+keyed_line-requires c = (c.requires.0, (c.requires.1, (got (key_reads c.args.s.now c.args.at) (sym c.in-Ok.ensures)).low))

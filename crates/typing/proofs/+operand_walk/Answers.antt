@@ -1,6 +1,6 @@
 -- A node by what stands there: nothing, a leaf, or a form whose operands were judged before it.
+use Rattle.std.specs.Prelude.{Err}
 use Rattle.std.proofs.Common.{ℕ, ◌∙◌, refl, sym, ap, arith, not}
-use Rattle.rules.specs.declared.Judged.TheVariants.{No}
 use Rattle.rules.specs.View.{form_of}
 use Rattle.rules.specs.Typing.{type}
 use Rattle.program.specs.Nodes.{arity}
@@ -17,7 +17,7 @@ operand-overflow_add-at t c = omega (arith, (leaf_there _ _ _ c.is_leaf.ensures 
 
 pub operand-returns-then-is_leaf : goal.operand-returns-then-is_leaf
 unfolding found_at type
-operand-returns-then-is_leaf t c = ends_there (type _ _ _) found _ _ _ (form _ _ _) (folds _ _ _) c.is_leaf.ensures c.if-is_leaf.true (No 4) (No 4) c.gives.ensures (c.leaf_at-j.ensures _)
+operand-returns-then-is_leaf t c = ends_there (type _ _ _) found _ _ _ (form _ _ _) (folds _ _ _) c.is_leaf.ensures c.if-is_leaf.true (Err 4) (Err 4) c.gives.ensures (c.leaf_at-j.ensures _)
 
 pub walk-returns-then-not-is_within : goal.walk-returns-then-not-is_within
 unfolding found_at type

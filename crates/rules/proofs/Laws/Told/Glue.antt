@@ -1,9 +1,11 @@
 -- A glue text: each line of each stage has a number of the first table, so the answer has a case of it. Assumes nothing.
 use Rattle.std.specs.Prelude.{◌+◌, ◌&&◌, ◌∷◌, ◌++◌, ◌+ℤ◌}
-use Rattle.rules.specs.Prelude.{ℕ, zero, suc, Bool, true, false, List, [], map, refl, ltb, eqb, length, Num, Tag, Entry, Env, Kind, Cint, Value, Op, Judged, No, Ok, Addr, Line, Reading, Got, Bad, Next, Count}
+use Rattle.rules.specs.Typing.{Judged}
+use Rattle.rules.specs.Typing.{Addr}
+use Rattle.rules.specs.Text.Words.{Reading}
+use Rattle.rules.specs.Text.Words.{Next}
+use Rattle.rules.specs.Prelude.{ℕ, zero, suc, Bool, true, false, List, [], map, refl, ltb, eqb, length, Num, Tag, Entry, Env, Kind, Cint, Value, Op, Err, Ok, Line, Count}
 use Rattle.rules.specs.Prelude.G
-use Rattle.rules.specs.Prelude.A
-use Rattle.rules.specs.Prelude.N
 use Rattle.rules.specs.Limits.{limits}
 use Rattle.rules.specs.Numbers.{among, suits, nat_of, zero_n}
 use Rattle.rules.specs.Answers.{answer, accepted, case_of}
@@ -51,69 +53,69 @@ names_told P =
 -- ---- 6 to 10, of an expression
 
 abbrev Says : Judged → Type 0
-Says (No n) = GlueNo n
-Says (Ok k e) = Unit
+Says (Err n) = GlueNo n
+Says (Ok (k, e)) = Unit
 
 abbrev SaysAt : Addr → Type 0
-SaysAt (A.Bad n) = GlueNo n
-SaysAt (A.At t k) = Unit
+SaysAt (Err n) = GlueNo n
+SaysAt (Ok (t, k)) = Unit
 
 says_var : (D : List Var) (Γ : Env) (v : ℕ) → Says (ty_var D Γ v)
 unfolding ty_var
-says_var D Γ v = by_need Says (No 4) (ltb v Γ.count) _ tt (λ h. tt)
+says_var D Γ v = by_need Says (Err 4) (ltb v Γ.count) _ tt (λ h. tt)
 
 says_arith : (o : Op) (a b : Judged) → Says a → Says b → Says (ty_arith o a b)
 unfolding ty_arith
-says_arith o (No n) b p q = p
-says_arith o (Ok k e) (No n) p q = q
-says_arith o (Ok (Value r) e) (Ok l d) p q = tt
-says_arith o (Ok Cint e) (Ok (Value r) d) p q = tt
-says_arith o (Ok Cint e) (Ok Cint d) p q = tt
+says_arith o (Err n) b p q = p
+says_arith o (Ok (k, e)) (Err n) p q = q
+says_arith o (Ok (Value r, e)) (Ok (l, d)) p q = tt
+says_arith o (Ok (Cint, e)) (Ok (Value r, d)) p q = tt
+says_arith o (Ok (Cint, e)) (Ok (Cint, d)) p q = tt
 
 module _ (ρ : Rows) where
   says_val : (r : ℕ) (a : Judged) → Says a → Says (ty_val ρ r a)
   unfolding ty_val
-  says_val r (No n) p = p
-  says_val r (Ok (Value q) e) p = tt
-  says_val r (Ok Cint e) p = by_need Says (No 9) (suits_tag (psi_of ρ r) e.tag) _ tt (λ h. tt)
+  says_val r (Err n) p = p
+  says_val r (Ok (Value q, e)) p = tt
+  says_val r (Ok (Cint, e)) p = by_need Says (Err 9) (suits_tag (psi_of ρ r) e.tag) _ tt (λ h. tt)
 
   says_int : (a : Judged) → Says a → Says (ty_int ρ a)
   unfolding ty_int
-  says_int (No n) p = p
-  says_int (Ok Cint e) p = tt
-  says_int (Ok (Value r) e) p = by_need Says (No 7) (immediate e.boxed (prods_of ρ r)) _ tt (λ h. by_need Says (No 10) (is_zero e.offset) _ tt (λ g. tt))
+  says_int (Err n) p = p
+  says_int (Ok (Cint, e)) p = tt
+  says_int (Ok (Value r, e)) p = by_need Says (Err 7) (immediate e.boxed (prods_of ρ r)) _ tt (λ h. by_need Says (Err 10) (is_zero e.offset) _ tt (λ g. tt))
 
   says_spot : (r : ℕ) (x : Spot) (m : Tag) → SaysAt (addr_spot ρ r x m)
   says_spot r nowhere m = tt
   says_spot r (spot o t) G.Unknown = tt
   says_spot r (spot o t) (G.Known m) =
-      by_need SaysAt (A.Bad 8) (among t.n (prods_of ρ r)) _ tt
-      (λ h. by_need SaysAt (A.Bad 8) (among (o.n +ℤ m.n) (fields_of ρ r (nat_of t.n))) _ tt (λ g. tt))
+      by_need SaysAt (Err 8) (among t.n (prods_of ρ r)) _ tt
+      (λ h. by_need SaysAt (Err 8) (among (o.n +ℤ m.n) (fields_of ρ r (nat_of t.n))) _ tt (λ g. tt))
 
   says_address : (r : ℕ) (e : Entry) (m : Tag) → SaysAt (address_of ρ r e m)
   says_address r e m = says_spot r (spot_of e.boxed e.offset e.tag (lone (psi_of ρ r) (prods_of ρ r))) m
 
   says_fetch : (a : Judged) → Says a → Says (ty_fetch ρ a)
   unfolding ty_fetch
-  says_fetch (No n) p = p
-  says_fetch (Ok Cint e) p = tt
-  says_fetch (Ok (Value r) e) p = go (address_of ρ r e (G.Known zero_n)) (says_address r e (G.Known zero_n))
+  says_fetch (Err n) p = p
+  says_fetch (Ok (Cint, e)) p = tt
+  says_fetch (Ok (Value r, e)) p = go (address_of ρ r e (G.Known zero_n)) (says_address r e (G.Known zero_n))
     where
       go : (a : Addr) → SaysAt a → Says (fetched ρ r a)
-      go (A.Bad n) h = h
-      go (A.At t k) h = tt
+      go (Err n) h = h
+      go (Ok (t, k)) h = tt
 
   says_step : (a b : Judged) → Says a → Says b → Says (ty_step ρ a b)
   unfolding ty_step
-  says_step (No n) b p q = p
-  says_step (Ok k e) (No n) p q = q
-  says_step (Ok Cint e) (Ok l d) p q = tt
-  says_step (Ok (Value r) e) (Ok (Value s) d) p q = tt
-  says_step (Ok (Value r) e) (Ok Cint d) p q = go (address_of ρ r e d.tag) (says_address r e d.tag)
+  says_step (Err n) b p q = p
+  says_step (Ok (k, e)) (Err n) p q = q
+  says_step (Ok (Cint, e)) (Ok (l, d)) p q = tt
+  says_step (Ok (Value r, e)) (Ok (Value s, d)) p q = tt
+  says_step (Ok (Value r, e)) (Ok (Cint, d)) p q = go (address_of ρ r e d.tag) (says_address r e d.tag)
     where
       go : (a : Addr) → SaysAt a → Says (stepped r a)
-      go (A.Bad n) h = h
-      go (A.At t k) h = tt
+      go (Err n) h = h
+      go (Ok (t, k)) h = tt
 
   says : (D : List Var) (Γ : Env) (x : Expr) → Says (type ρ D Γ x)
   unfolding type
@@ -137,19 +139,19 @@ module _ (Γ : Env) where
 
   says_set : (D : List Var) (v : ℕ) (a : Judged) → Says a → SaysLine (rule_set D v a Γ)
   unfolding rule_set
-  says_set D v (No n) p = p
-  says_set D v (Ok k e) p = by_need SaysLine (refuse 6 Γ) (same_kind k (kind_at D v)) _ tt (λ h. tt)
+  says_set D v (Err n) p = p
+  says_set D v (Ok (k, e)) p = by_need SaysLine (refuse 6 Γ) (same_kind k (kind_at D v)) _ tt (λ h. tt)
 
   says_put_at : (ρ : Rows) (r : ℕ) (l : Kind) (d : Entry) (a : Addr) → SaysAt a → SaysLine (put_at ρ r l d a Γ)
-  says_put_at ρ r l d (A.Bad n) p = p
-  says_put_at ρ r l d (A.At t o) p = by_need SaysLine (refuse 6 Γ) (same_kind l (Value (field_of ρ r t o))) _ tt (λ h. by_need SaysLine (refuse 10 Γ) (is_zero d.offset) _ tt (λ g. tt))
+  says_put_at ρ r l d (Err n) p = p
+  says_put_at ρ r l d (Ok (t, o)) p = by_need SaysLine (refuse 6 Γ) (same_kind l (Value (field_of ρ r t o))) _ tt (λ h. by_need SaysLine (refuse 10 Γ) (is_zero d.offset) _ tt (λ g. tt))
 
   says_put : (ρ : Rows) (m : Num) (a b : Judged) → Says a → Says b → SaysLine (rule_put ρ m a b Γ)
   unfolding rule_put
-  says_put ρ m (No n) b p q = p
-  says_put ρ m (Ok k e) (No n) p q = q
-  says_put ρ m (Ok Cint e) (Ok l d) p q = tt
-  says_put ρ m (Ok (Value r) e) (Ok l d) p q = says_put_at ρ r l d (address_of ρ r e (G.Known m)) (says_address ρ r e (G.Known m))
+  says_put ρ m (Err n) b p q = p
+  says_put ρ m (Ok (k, e)) (Err n) p q = q
+  says_put ρ m (Ok (Cint, e)) (Ok (l, d)) p q = tt
+  says_put ρ m (Ok (Value r, e)) (Ok (l, d)) p q = says_put_at ρ r l d (address_of ρ r e (G.Known m)) (says_address ρ r e (G.Known m))
 
   says_goto : (L : List Label) (l : ℕ) → SaysLine (rule_goto L l Γ)
   unfolding rule_goto
@@ -157,38 +159,38 @@ module _ (Γ : Env) where
 
   says_if : (L : List Label) (l : ℕ) (a : Judged) → Says a → SaysLine (rule_if L l a Γ)
   unfolding rule_if
-  says_if L l (No n) p = p
-  says_if L l (Ok (Value r) e) p = tt
-  says_if L l (Ok Cint e) p = says_jump L l Γ _ tt
+  says_if L l (Err n) p = p
+  says_if L l (Ok (Value r, e)) p = tt
+  says_if L l (Ok (Cint, e)) p = says_jump L l Γ _ tt
 
   says_ifimm : (L : List Label) (l v : ℕ) (a : Judged) → Says a → SaysLine (rule_ifimm L l v a Γ)
   unfolding rule_ifimm
-  says_ifimm L l v (No n) p = p
-  says_ifimm L l v (Ok Cint e) p = tt
-  says_ifimm L l v (Ok (Value r) e) p = by_need SaysLine (refuse 10 Γ) (is_zero e.offset) _ tt (λ h. says_jump L l _ _ tt)
+  says_ifimm L l v (Err n) p = p
+  says_ifimm L l v (Ok (Cint, e)) p = tt
+  says_ifimm L l v (Ok (Value r, e)) p = by_need SaysLine (refuse 10 Γ) (is_zero e.offset) _ tt (λ h. says_jump L l _ _ tt)
 
   says_iftag : (ρ : Rows) (L : List Label) (l v : ℕ) (n : Num) (a : Judged) → Says a → SaysLine (rule_iftag ρ L l v n a Γ)
   unfolding rule_iftag
-  says_iftag ρ L l v n (No m) p = p
-  says_iftag ρ L l v n (Ok Cint e) p = tt
-  says_iftag ρ L l v n (Ok (Value r) e) p =
+  says_iftag ρ L l v n (Err m) p = p
+  says_iftag ρ L l v n (Ok (Cint, e)) p = tt
+  says_iftag ρ L l v n (Ok (Value r, e)) p =
       by_need SaysLine (refuse 10 Γ) (is_zero e.offset) _ tt
       (λ h. by_need SaysLine (refuse 7 Γ) (is_box e.boxed) _ tt
       (λ g. by_need SaysLine (refuse 8 Γ) (among n.n (prods_of ρ r)) _ tt (λ f. says_jump L l _ _ tt)))
 
   says_ifint : (ρ : Rows) (L : List Label) (l v : ℕ) (n : Num) (a : Judged) → Says a → SaysLine (rule_ifint ρ L l v n a Γ)
   unfolding rule_ifint
-  says_ifint ρ L l v n (No m) p = p
-  says_ifint ρ L l v n (Ok Cint e) p = tt
-  says_ifint ρ L l v n (Ok (Value r) e) p =
+  says_ifint ρ L l v n (Err m) p = p
+  says_ifint ρ L l v n (Ok (Cint, e)) p = tt
+  says_ifint ρ L l v n (Ok (Value r, e)) p =
       by_need SaysLine (refuse 10 Γ) (is_zero e.offset) _ tt
       (λ h. by_need SaysLine (refuse 7 Γ) (is_imm e.boxed) _ tt
       (λ g. by_need SaysLine (refuse 9 Γ) (suits (psi_of ρ r) n) _ tt (λ f. says_jump L l _ _ tt)))
 
   says_return : (ret : Kind) (a : Judged) → Says a → SaysLine (rule_return ret a Γ)
   unfolding rule_return
-  says_return ret (No n) p = p
-  says_return ret (Ok k e) p = by_need SaysLine (refuse 6 Γ) (same_kind k ret) _ tt (λ h. by_need SaysLine (refuse 10 Γ) (is_zero e.offset) _ tt (λ g. tt))
+  says_return ret (Err n) p = p
+  says_return ret (Ok (k, e)) p = by_need SaysLine (refuse 6 Γ) (same_kind k ret) _ tt (λ h. by_need SaysLine (refuse 10 Γ) (is_zero e.offset) _ tt (λ g. tt))
 
   says_label : (P : Prog) (l : ℕ) (b : Bool) → SaysLine (rule_label P l b Γ)
   unfolding rule_label
@@ -252,12 +254,12 @@ module _ (s : List ℕ) (c : Count) (t : Tables) where
   says_limited k n (filled false d u) = tt
 
   says_shaped : (k at : ℕ) (x : Next) → SaysLined (shaped s k at c t x)
-  says_shaped k at (N.Bad p) = tt
-  says_shaped k at (N.At n) = by_when SaysLined (eqb (byte_at s n) 10) _ _ (λ z. says_limited k (n + 1) (fill_line s (key_of k) at c t)) (λ z. tt)
+  says_shaped k at (Err p) = tt
+  says_shaped k at (Ok n) = by_when SaysLined (eqb (byte_at s n) 10) _ _ (λ z. says_limited k (n + 1) (fill_line s (key_of k) at c t)) (λ z. tt)
 
   says_keyed : (start : ℕ) (x : Reading) → SaysLined (keyed s start c t x)
-  says_keyed start (Bad p) = tt
-  says_keyed start (Got k n) = by_when SaysLined (in_order c.part k) _ _ (λ z. says_shaped k n (line_shape s c.vars (key_of k) n)) (λ z. tt)
+  says_keyed start (Err p) = tt
+  says_keyed start (Ok (k, n)) = by_when SaysLined (in_order c.part k) _ _ (λ z. says_shaped k n (line_shape s c.vars (key_of k) n)) (λ z. tt)
 
 abbrev ToldText : TextOut → Type 0
 ToldText o = Told InGlue o.answer

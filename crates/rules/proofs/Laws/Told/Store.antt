@@ -1,6 +1,8 @@
 -- A store text: each line of each stage has 0 or a number of the second table, so the answer has a case of it. Assumes nothing.
 use Rattle.std.specs.Prelude.{◌+◌, ◌||◌, ◌∷◌}
-use Rattle.rules.specs.Prelude.{ℕ, zero, suc, List, [], refl, ltb, eqb, length, Reading, Got, Bad, StoreCount, Given}
+use Rattle.rules.specs.Text.Words.{Reading}
+use Rattle.rules.specs.Machine.{Given}
+use Rattle.rules.specs.Prelude.{ℕ, zero, suc, List, [], refl, ltb, eqb, length, Ok, Err, StoreCount}
 use Rattle.rules.specs.Limits.{limits}
 use Rattle.rules.specs.Answers.{case_of}
 use Rattle.rules.specs.Text.Words.{byte_at, value_of}
@@ -22,12 +24,12 @@ SaysStore (store_line a n c) = StoreNo a
 
 module _ (s : List ℕ) (c : StoreCount) where
   says_store_shaped : (k : ℕ) (x : Reading) → SaysStore (store_shaped s c k x)
-  says_store_shaped k (Bad p) = tt
-  says_store_shaped k (Got v n) = by_when SaysStore (eqb (byte_at s n) 10) _ _ (λ z. by_when SaysStore (within (counted c k v)) _ _ (λ y. tt) (λ y. tt)) (λ z. tt)
+  says_store_shaped k (Err p) = tt
+  says_store_shaped k (Ok (v, n)) = by_when SaysStore (eqb (byte_at s n) 10) _ _ (λ z. by_when SaysStore (within (counted c k v)) _ _ (λ y. tt) (λ y. tt)) (λ z. tt)
 
   says_store_keyed : (params start : ℕ) (x : Reading) → SaysStore (store_keyed s params start c x)
-  says_store_keyed params start (Bad p) = tt
-  says_store_keyed params start (Got k n) = by_when SaysStore (store_order params c k) _ _ (λ z. says_store_shaped k (store_words s k n)) (λ z. tt)
+  says_store_keyed params start (Err p) = tt
+  says_store_keyed params start (Ok (k, n)) = by_when SaysStore (store_order params c k) _ _ (λ z. says_store_shaped k (store_words s k n)) (λ z. tt)
 
 abbrev ToldCounted : Counted → Type 0
 ToldCounted (counted_out a c) = Told InStore a
