@@ -1,5 +1,7 @@
 -- The tests of `iftag`, the two expressions of a `put`, and a body line by the number of its kind. Assumes nothing.
 use Rattle.std.specs.Prelude.{Some}
+use Rattle.rules.specs.declared.Way.{Way}
+use Rattle.rules.specs.declared.Way.TheVariants as Ws
 use native.Mathlib.Omega.{arith as lin}
 use borrow.Author.Tests.{lt-ltb, le-ltb, eq-eqb, ne_eqb}
 use mathlib.Core.Path.{◌≡◌, sym, ap, ◌∙◌}
@@ -15,7 +17,7 @@ use Rattle.rules.specs.declared.Act.{Act}
 use Rattle.rules.specs.declared.Act.TheVariants.{Stuck}
 use Rattle.rules.specs.Numbers.{eq_z, num_code}
 use Rattle.rules.specs.Program.{Prog, Rows, Stmt, bad_s}
-use Rattle.rules.specs.View.{tree_of, tree_at, Way, no_w, way_of, stmt_of, stmt_from, rows_from, vars_from, body_from, program}
+use Rattle.rules.specs.View.{tree_of, tree_at, way_of, stmt_of, stmt_from, rows_from, vars_from, body_from, program}
 use Rattle.rules.specs.Machine.{Store, tag_in, ev_var, eval, jump_on, act_set, act_put, act_if, act_ifimm, act_iftag, act_ifint, act_return, act, decide}
 use Rattle.rules.specs.Machine.Tables.{store_of, vals_of}
 use Rattle.eval.specs.declared.Gave.{Gave}
@@ -116,7 +118,7 @@ module _ (Z N R D L B : List ℕ) (S H C W : List ℕ) where
 
     pub no_line : NoneTo 9 s.kind → line ≡ Stuck
     unfolding stmt_of act
-    no_line h = by_way no_w (way_rest s.kind h)
+    no_line h = by_way Ws.Absent (way_rest s.kind h)
 
   -- a place of the body, and one past its lines
   pub line_there : (i n : ℕ) → n ≡ length (body_from Z N B) → i < n → decide P σ δ i ≡ act P σ δ (stmt_from N B i)

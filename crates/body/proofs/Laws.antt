@@ -1,5 +1,7 @@
 -- Labels that are there, a body line by the number of its kind, the loops over the lines, and the last line, in the words of the tables. Assumes nothing.
 use mathlib.Core.Path.{◌≡◌, refl, sym, ap, ◌∙◌}
+use Rattle.rules.specs.declared.Way.{Way}
+use Rattle.rules.specs.declared.Way.TheVariants as W
 use mathlib.Core.Bool.{Bool, true, false}
 use mathlib.Core.List.{List, [], ◌∷◌, map}
 use Prim.Native.Nat.{ℕ, suc, ◌+◌, ◌-◌, ◌<◌, ◌≤◌}
@@ -18,7 +20,7 @@ use Rattle.rules.specs.Numbers.{num_code}
 use Rattle.rules.specs.Text.Layout.{Tables}
 use Rattle.rules.proofs.Laws.Lists.{tab_length}
 use Rattle.rules.specs.Program.{Stmt, bad_s}
-use Rattle.rules.specs.View.{tab, tree_of, tree_at, Way, no_w, set_w, put_w, goto_w, if_w, ifimm_w, iftag_w, ifint_w, return_w, label_w, way_of, stmt_of, stmt_from, kind_code, rows_from, vars_from, labels_from, body_from, program}
+use Rattle.rules.specs.View.{tab, tree_of, tree_at, way_of, stmt_of, stmt_from, kind_code, rows_from, vars_from, labels_from, body_from, program}
 use Rattle.rules.specs.Typing.{ty_var, type}
 use Rattle.rules.specs.Environments.{covers_env, covers, with_entry, start_env}
 use Rattle.rules.specs.Body.{refuse, rule_set, rule_put, rule_goto, rule_if, rule_ifimm, rule_iftag, rule_ifint, rule_return, reached, line_of, local_line, last_of, is_end}
@@ -109,7 +111,7 @@ module _ (Z R D L N B : List ℕ) (b : Bool) (Γ : Env) (i : ℕ) (s : Stored) (
 
   pub no_line : NoneTo 9 s.kind → line ≡ refuse 4 Γ
   unfolding stmt_of line_in line_of
-  no_line h = by_way no_w (way_rest s.kind h)
+  no_line h = by_way W.Absent (way_rest s.kind h)
 
 -- ---- a stage, line by line
 
@@ -169,29 +171,29 @@ types_parts t =
 -- ---- the last line
 
 abbrev stops : Way → Bool
-stops no_w = false
-stops set_w = false
-stops put_w = false
-stops goto_w = true
-stops if_w = false
-stops ifimm_w = false
-stops iftag_w = false
-stops ifint_w = false
-stops return_w = true
-stops label_w = false
+stops W.Absent = false
+stops W.Set = false
+stops W.Put = false
+stops W.Goto = true
+stops W.If = false
+stops W.IfImm = false
+stops W.IfTag = false
+stops W.IfInt = false
+stops W.Return = true
+stops W.Label = false
 
 end_way : (N : List ℕ) (w : Way) (l v x k : ℕ) → is_end (stmt_of N w l v x k) ≡ stops w
 unfolding stmt_of
-end_way N no_w l v x k = refl
-end_way N set_w l v x k = rw (with_one_lem (Stmt.set_s v) (tree_at N 16 k))
-end_way N put_w l v x k = rw (with_two_lem N (λ y z. Stmt.put_s y (num_code x) z) (tree_at N 16 k))
-end_way N goto_w l v x k = refl
-end_way N if_w l v x k = rw (with_one_lem (Stmt.if_s l) (tree_at N 16 k))
-end_way N ifimm_w l v x k = refl
-end_way N iftag_w l v x k = refl
-end_way N ifint_w l v x k = refl
-end_way N return_w l v x k = rw (with_one_lem Stmt.return_s (tree_at N 16 k))
-end_way N label_w l v x k = refl
+end_way N W.Absent l v x k = refl
+end_way N W.Set l v x k = rw (with_one_lem (Stmt.set_s v) (tree_at N 16 k))
+end_way N W.Put l v x k = rw (with_two_lem N (λ y z. Stmt.put_s y (num_code x) z) (tree_at N 16 k))
+end_way N W.Goto l v x k = refl
+end_way N W.If l v x k = rw (with_one_lem (Stmt.if_s l) (tree_at N 16 k))
+end_way N W.IfImm l v x k = refl
+end_way N W.IfTag l v x k = refl
+end_way N W.IfInt l v x k = refl
+end_way N W.Return l v x k = rw (with_one_lem Stmt.return_s (tree_at N 16 k))
+end_way N W.Label l v x k = refl
 
 module _ (N B : List ℕ) (i : ℕ) (s : Stored) (e : s ≡ stored_at B i) where
   end_by : (w : Way) → way_of s.kind ≡ w → is_end (stmt_from N B i) ≡ stops w
@@ -201,7 +203,7 @@ module _ (N B : List ℕ) (i : ℕ) (s : Stored) (e : s ≡ stored_at B i) where
   end_kind n q = end_by (way_of n) (ap way_of q)
 
   pub end_rest : NoneTo 9 s.kind → is_end (stmt_from N B i) ≡ false
-  end_rest h = end_by no_w (way_rest s.kind h)
+  end_rest h = end_by W.Absent (way_rest s.kind h)
 
 last_at : (l : List Stmt) → 0 < length l → last_of l ≡ get_or l (length l - 1) bad_s
 unfolding last_of

@@ -1,5 +1,6 @@
 -- A cell outside its block, a place that is moved as a place among the cells of its block, and what an expression gives from what its operands give. Assumes nothing.
 use Rattle.std.specs.Prelude.{Some, None, Option}
+use Rattle.rules.specs.declared.Form.TheVariants as M
 use native.Mathlib.Omega.{arith as lin}
 use native.Mathlib.Decide.{dec_lt}
 use borrow.Author.Tests.{lt-ltb, ltb-true}
@@ -13,7 +14,7 @@ use lib.ListN.{length}
 use Rattle.rules.specs.declared.Datum.TheVariants.{Place}
 use Rattle.rules.specs.Machine.{Given}
 use Rattle.rules.specs.When.{need}
-use Rattle.rules.specs.View.{form_of, none, lit_f, var_f, fetch_f, int_f, val_f, step_f, calc, tree_of, tree_at}
+use Rattle.rules.specs.View.{form_of, tree_of, tree_at}
 use Rattle.rules.specs.Program.{Rows}
 use Rattle.rules.specs.Machine.{Store, cells_in, inside, cell_at, ev_arith, ev_val, ev_int, ev_fetch, moved, ev_step, eval}
 use Rattle.number.specs.Places.{index_in, index_at, index_out}
@@ -67,16 +68,16 @@ module _ (s : Store) (b : ℕ) where
 
 pub folds : (ρ : Rows) (σ : Store) (δ : List Given) → Folds (eval ρ σ δ) (form ρ σ δ)
 unfolding form eval
-folds ρ σ δ none a p q x y ex ey = refl
-folds ρ σ δ lit_f a p q x y ex ey = refl
-folds ρ σ δ var_f a p q x y ex ey = refl
-folds ρ σ δ fetch_f a p q x y ex ey = ap (ev_fetch σ) (sym (ex (omega lin)))
-folds ρ σ δ int_f a p q x y ex ey = ap ev_int (sym (ex (omega lin)))
-folds ρ σ δ val_f a p q x y ex ey = ap (ev_val ρ a) (sym (ex (omega lin)))
-folds ρ σ δ step_f a p q x y ex ey = ap₂ (ev_step σ) (sym (ex (omega lin))) (sym (ey (omega lin)))
-folds ρ σ δ (calc o) a p q x y ex ey = ap₂ (ev_arith o) (sym (ex (omega lin))) (sym (ey (omega lin)))
+folds ρ σ δ M.Absent a p q x y ex ey = refl
+folds ρ σ δ M.Lit a p q x y ex ey = refl
+folds ρ σ δ M.Var a p q x y ex ey = refl
+folds ρ σ δ M.Fetch a p q x y ex ey = ap (ev_fetch σ) (sym (ex (omega lin)))
+folds ρ σ δ M.Int a p q x y ex ey = ap ev_int (sym (ex (omega lin)))
+folds ρ σ δ M.Val a p q x y ex ey = ap (ev_val ρ a) (sym (ex (omega lin)))
+folds ρ σ δ M.Step a p q x y ex ey = ap₂ (ev_step σ) (sym (ex (omega lin))) (sym (ey (omega lin)))
+folds ρ σ δ (M.Calc o) a p q x y ex ey = ap₂ (ev_arith o) (sym (ex (omega lin))) (sym (ey (omega lin)))
 
-pub step_form : (ρ : Rows) (σ : Store) (δ : List Given) (op a : ℕ) (x y : Given) → form_of op ≡ step_f → ev_step σ x y ≡ form ρ σ δ (form_of op) a x y
+pub step_form : (ρ : Rows) (σ : Store) (δ : List Given) (op a : ℕ) (x y : Given) → form_of op ≡ M.Step → ev_step σ x y ≡ form ρ σ δ (form_of op) a x y
 unfolding form
 step_form ρ σ δ op a x y e = rw e
 

@@ -1,12 +1,14 @@
 -- What the tree at a node gives in the machine, with the node after it; and what a node gives, from what its operands give. Assumes nothing.
 use Rattle.std.specs.Prelude.{◌≡◌, Some, None}
+use Rattle.rules.specs.declared.Form.{Form}
+use Rattle.rules.specs.declared.Form.TheVariants as M
 use Rattle.rules.specs.Prelude.{ℕ, List, refl}
 use Rattle.rules.specs.declared.Datum.TheVariants.{Int, Imm, Place}
 use Rattle.rules.specs.declared.Op.{Op}
 use Rattle.rules.specs.Machine.{Given}
 use Rattle.rules.specs.Numbers.{num_code}
 use Rattle.rules.specs.Program.{Rows}
-use Rattle.rules.specs.View.{Form, none, lit_f, var_f, fetch_f, int_f, val_f, step_f, calc, tree_of, tree_at}
+use Rattle.rules.specs.View.{tree_of, tree_at}
 use Rattle.rules.specs.Machine.{Store, ev_var, ev_arith, ev_val, ev_int, ev_fetch, ev_step, eval}
 use Rattle.program.specs.Nodes.{after_of}
 use Rattle.eval.specs.declared.Gave.{Gave}
@@ -27,14 +29,14 @@ arith_ints o (Some (Place b i)) y = refl
 
 -- what a node gives, from its argument and what its operands give
 unfoldable pub form : Rows → Store → List Given → Form → ℕ → Given → Given → Given
-form ρ σ δ none a x y = None
-form ρ σ δ lit_f a x y = Some (Int (num_code a))
-form ρ σ δ var_f a x y = ev_var δ a
-form ρ σ δ fetch_f a x y = ev_fetch σ x
-form ρ σ δ int_f a x y = ev_int x
-form ρ σ δ val_f a x y = ev_val ρ a x
-form ρ σ δ step_f a x y = ev_step σ x y
-form ρ σ δ (calc o) a x y = ev_arith o x y
+form ρ σ δ M.Absent a x y = None
+form ρ σ δ M.Lit a x y = Some (Int (num_code a))
+form ρ σ δ M.Var a x y = ev_var δ a
+form ρ σ δ M.Fetch a x y = ev_fetch σ x
+form ρ σ δ M.Int a x y = ev_int x
+form ρ σ δ M.Val a x y = ev_val ρ a x
+form ρ σ δ M.Step a x y = ev_step σ x y
+form ρ σ δ (M.Calc o) a x y = ev_arith o x y
 
 abbrev pub gave : Given → ℕ → Gave
 gave g n = record { given = g; next = n }

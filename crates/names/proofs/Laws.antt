@@ -1,5 +1,9 @@
 -- Laws of the tests of all, of the stage's parts, of the tree walk, and of a body line by its kind's number. Assumes nothing.
 use native.Mathlib.Omega.{arith as lin}
+use Rattle.rules.specs.declared.Form.{Form}
+use Rattle.rules.specs.declared.Way.{Way}
+use Rattle.rules.specs.declared.Form.TheVariants as M
+use Rattle.rules.specs.declared.Way.TheVariants as W
 use native.Mathlib.Decide.{dec_lt}
 use mathlib.Core.Path.{ap₂}
 use lib.ListN.{get_or-eq_default, get_or-map, length-map}
@@ -11,7 +15,7 @@ use Rattle.rules.specs.Numbers.{num_code}
 use Rattle.rules.specs.Answers.{answer, and_then, first}
 use Rattle.rules.specs.Environments.{no_var}
 use Rattle.rules.specs.Program.{Prog, Var, Expr, Stmt, bad_s, set_s, put_s, goto_s, if_s, ifimm_s, iftag_s, ifint_s, return_s, row_there, kind_at, label_at, no_entry}
-use Rattle.rules.specs.View.{tab, vars_from, labels_from, label_from, entry_from, Walked, walked, Form, none, lit_f, var_f, fetch_f, int_f, val_f, step_f, calc, form_of, tree_at, Way, no_w, set_w, put_w, goto_w, if_w, ifimm_w, iftag_w, ifint_w, return_w, label_w, way_of, tree_of, with_one, with_two, stmt_of, stmt_from, body_from}
+use Rattle.rules.specs.View.{tab, vars_from, labels_from, label_from, entry_from, Walked, walked, form_of, tree_at, way_of, tree_of, with_one, with_two, stmt_of, stmt_from, body_from}
 use Rattle.rules.specs.Names.{expr_there, fields_there, products_there, entry_suits, entries_suit, name_kind, name_row, name_var}
 use Rattle.rules.proofs.Laws.Lists.{tab_length, tab_in}
 use Rattle.table.proofs.Passes.{left_more, left_none, then_on, then_no, first_append}
@@ -97,25 +101,25 @@ module _ (trees : Bool) (P : Prog) (top : ℕ) (et : top ≡ name_kind P P.ret) 
 
 folds : (P : Prog) → Folds (expr_there P) (form_there P)
 unfolding expr_there
-folds P none a p q x y ex ey = refl
-folds P lit_f a p q x y ex ey = refl
-folds P var_f a p q x y ex ey = refl
-folds P fetch_f a p q x y ex ey = sym (ex (omega lin))
-folds P int_f a p q x y ex ey = sym (ex (omega lin))
-folds P val_f a p q x y ex ey = ap (λ (b : Bool). row_there P.rows a && b) (sym (ex (omega lin)))
-folds P step_f a p q x y ex ey = ap₂ ◌&&◌ (sym (ex (omega lin))) (sym (ey (omega lin)))
-folds P (calc o) a p q x y ex ey = ap₂ ◌&&◌ (sym (ex (omega lin))) (sym (ey (omega lin)))
+folds P M.Absent a p q x y ex ey = refl
+folds P M.Lit a p q x y ex ey = refl
+folds P M.Var a p q x y ex ey = refl
+folds P M.Fetch a p q x y ex ey = sym (ex (omega lin))
+folds P M.Int a p q x y ex ey = sym (ex (omega lin))
+folds P M.Val a p q x y ex ey = ap (λ (b : Bool). row_there P.rows a && b) (sym (ex (omega lin)))
+folds P M.Step a p q x y ex ey = ap₂ ◌&&◌ (sym (ex (omega lin))) (sym (ey (omega lin)))
+folds P (M.Calc o) a p q x y ex ey = ap₂ ◌&&◌ (sym (ex (omega lin))) (sym (ey (omega lin)))
 
 -- a form with two operands names nothing itself
 two_form : (P : Prog) (o : Form) (a : ℕ) (x y : Bool) → (arity o ≡ 0 → ⊥) → (arity o ≡ 1 → ⊥) → form_there P o a x y ≡ (x && y)
-two_form P none a x y z i = absurd (z refl)
-two_form P lit_f a x y z i = absurd (z refl)
-two_form P var_f a x y z i = absurd (z refl)
-two_form P fetch_f a x y z i = absurd (i refl)
-two_form P int_f a x y z i = absurd (i refl)
-two_form P val_f a x y z i = absurd (i refl)
-two_form P step_f a x y z i = refl
-two_form P (calc o) a x y z i = refl
+two_form P M.Absent a x y z i = absurd (z refl)
+two_form P M.Lit a x y z i = absurd (z refl)
+two_form P M.Var a x y z i = absurd (z refl)
+two_form P M.Fetch a x y z i = absurd (i refl)
+two_form P M.Int a x y z i = absurd (i refl)
+two_form P M.Val a x y z i = absurd (i refl)
+two_form P M.Step a x y z i = refl
+two_form P (M.Calc o) a x y z i = refl
 
 -- the number tells both
 none_there : (b : Bool) (n : ℕ) → more_if b n ≡ 0 → b ≡ false
@@ -209,29 +213,29 @@ others : (n k : ℕ) → Others n k → k < suc n → k ≡ 0
 others zero k o h = omega lin
 others (suc n) k o h = others n k o.0 (omega (lin, o.1))
 
-pub way_none : (k : ℕ) → Others 9 k → way_of k ≡ no_w
+pub way_none : (k : ℕ) → Others 9 k → way_of k ≡ W.Absent
 unfolding way_of
 way_none k o = let z = others 9 k o in rw beyond
 
 -- ---- a line that is no label
 
 kind_of : Way → ℕ
-kind_of no_w = 0
-kind_of set_w = 1
-kind_of put_w = 2
-kind_of goto_w = 3
-kind_of if_w = 4
-kind_of ifimm_w = 5
-kind_of iftag_w = 6
-kind_of ifint_w = 7
-kind_of return_w = 8
-kind_of label_w = 9
+kind_of W.Absent = 0
+kind_of W.Set = 1
+kind_of W.Put = 2
+kind_of W.Goto = 3
+kind_of W.If = 4
+kind_of W.IfImm = 5
+kind_of W.IfTag = 6
+kind_of W.IfInt = 7
+kind_of W.Return = 8
+kind_of W.Label = 9
 
 kinds : (k : ℕ) → kind_of (way_of k) ≡ get_or (tab 10 (λ i. i)) k 0
 unfolding way_of tab kind_of
-kinds k = sym (get_or-map kind_of (no_w ∷ set_w ∷ put_w ∷ goto_w ∷ if_w ∷ ifimm_w ∷ iftag_w ∷ ifint_w ∷ return_w ∷ label_w ∷ []) k no_w)
+kinds k = sym (get_or-map kind_of (W.Absent ∷ W.Set ∷ W.Put ∷ W.Goto ∷ W.If ∷ W.IfImm ∷ W.IfTag ∷ W.IfInt ∷ W.Return ∷ W.Label ∷ []) k W.Absent)
 
-label_by : (k : ℕ) → Dec (k < 10) → way_of k ≡ label_w → k ≡ 9
+label_by : (k : ℕ) → Dec (k < 10) → way_of k ≡ W.Label → k ≡ 9
 unfolding kind_of
 label_by k (yes h) e = sym (tab_in 10 (λ i. i) k 0 h) ∙ sym (kinds k) ∙ ap kind_of e
 label_by k (no h) e = let z : ◌≡◌ {A = ℕ} 9 0 = sym (ap kind_of e) ∙ kinds k ∙ get_or-eq_default (tab 10 (λ i. i)) 0 {n = k} (rw (tab_length 10 (λ i. i)) (omega (lin, h))) in absurd (omega lin)
@@ -243,21 +247,21 @@ module _ (q : Stmt → Bool) (b : Bool) (N : List ℕ) where
   two_by : (f : Expr → Expr → Stmt) → ((x y : Expr) → q (f x y) ≡ b) → (w : Walked) → q (with_two N f w) ≡ b
   two_by f h (walked x n) = h x _
 
-  module _ (l v w k : ℕ) (none : q bad_s ≡ b) (set : (x : Expr) → q (set_s v x) ≡ b) (put : (x y : Expr) → q (put_s x (num_code w) y) ≡ b) (goto : q (goto_s l) ≡ b)
+  module _ (l v w k : ℕ) (absent : q bad_s ≡ b) (set : (x : Expr) → q (set_s v x) ≡ b) (put : (x y : Expr) → q (put_s x (num_code w) y) ≡ b) (goto : q (goto_s l) ≡ b)
       (if : (x : Expr) → q (if_s l x) ≡ b) (ifimm : q (ifimm_s l v) ≡ b) (iftag : q (iftag_s l v (num_code w)) ≡ b) (ifint : q (ifint_s l v (num_code w)) ≡ b)
       (return : (x : Expr) → q (return_s x) ≡ b) where
-    no_label : (way : Way) → (way ≡ label_w → ⊥) → q (stmt_of N way l v w k) ≡ b
+    no_label : (way : Way) → (way ≡ W.Label → ⊥) → q (stmt_of N way l v w k) ≡ b
     unfolding stmt_of
-    no_label no_w h = none
-    no_label set_w h = one_by (set_s v) set (tree_at N 16 k)
-    no_label put_w h = two_by (λ x y. put_s x (num_code w) y) put (tree_at N 16 k)
-    no_label goto_w h = goto
-    no_label if_w h = one_by (if_s l) if (tree_at N 16 k)
-    no_label ifimm_w h = ifimm
-    no_label iftag_w h = iftag
-    no_label ifint_w h = ifint
-    no_label return_w h = one_by return_s return (tree_at N 16 k)
-    no_label label_w h = absurd (h refl)
+    no_label W.Absent h = absent
+    no_label W.Set h = one_by (set_s v) set (tree_at N 16 k)
+    no_label W.Put h = two_by (λ x y. put_s x (num_code w) y) put (tree_at N 16 k)
+    no_label W.Goto h = goto
+    no_label W.If h = one_by (if_s l) if (tree_at N 16 k)
+    no_label W.IfImm h = ifimm
+    no_label W.IfTag h = iftag
+    no_label W.IfInt h = ifint
+    no_label W.Return h = one_by return_s return (tree_at N 16 k)
+    no_label W.Label h = absurd (h refl)
 
     pub other_line : (kind : ℕ) → (kind ≡ 9 → ⊥) → q (stmt_of N (way_of kind) l v w k) ≡ b
     other_line kind h = no_label (way_of kind) (λ e. h (label_by kind (dec_lt kind 10) e))

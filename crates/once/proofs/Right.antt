@@ -1,5 +1,7 @@
 -- A line that is read once is filled as the rules say, and its shape ends where it says; one that is not has a wrong shape, or passes a limit. Assumes nothing.
 use mathlib.Core.Logic.{⊎_elim}
+use Rattle.rules.specs.declared.Key.{Key}
+use Rattle.rules.specs.declared.Key.TheVariants as K
 use native.Mathlib.Omega.{arith}
 use borrow.Author.Tests.{ltb-true, eqb-true, eq-eqb}
 use Rattle.std.specs.Prelude.{◌+◌, ◌<◌, ◌≡◌, Some, None, Ok, Err}
@@ -10,7 +12,7 @@ use Rattle.rules.specs.Text.Words.{Next}
 use Rattle.rules.specs.When.{when}
 use Rattle.rules.proofs.Laws.Tests.{by_when}
 use Rattle.rules.specs.Text.Words.{byte_at, value_of, next_of, byte_is, plain_at, number_at, var_at}
-use Rattle.rules.specs.Text.Shape.{after, over, space, expr_shape, Key, no_key, ret_k, type_k, param_k, local_k, set_k, put_k, goto_k, if_k, ifimm_k, iftag_k, ifint_k, return_k, label_k, key_of, line_shape}
+use Rattle.rules.specs.Text.Shape.{after, over, space, expr_shape, key_of, line_shape}
 use Rattle.rules.specs.Text.Layout.{Tables, with_nodes, with_body, one_line}
 use Rattle.rules.specs.Text.Fill.{Filled, filled, Out, out, expression, expr_line, fill_set, fill_put_two, fill_put, fill_if, fill_return, one_more, fill_line}
 use Rattle.once.specs.Once.{expr_once, Onced, once, last_once, after_mark, set_once, if_once, rest_once, two_once, put_once, key_once, line_once, has_expr}
@@ -116,24 +118,24 @@ module _ (s : List ℕ) (c : Count) (t : Tables) where
   key_told : (vars at : ℕ) (k : Key) → has_expr k ≡ true
       → Told (when (ltb c.lines 512) (λ _. when (ltb c.nodes 4096) (λ _. key_once s k at c.lines c.nodes t.nodes t.body) (λ _. stop)) (λ _. stop)) (line_shape s vars k at) (fill_line s k at c t)
   unfolding has_expr key_once line_shape fill_line set_once fill_set put_once fill_put if_once fill_if fill_return
-  key_told vars at set_k h = one_told 1 (λ x. 0) (λ x. x) (var_at s at)
-  key_told vars at put_k h =
+  key_told vars at K.Set h = one_told 1 (λ x. 0) (λ x. x) (var_at s at)
+  key_told vars at K.Put h =
       in_room _ _ _ (two_told at (expr_once s 16 at c.nodes t.nodes) (expression s 16 at c.nodes t.nodes) (expression_read s 16 at c.nodes t.nodes))
       (λ q. two_limited (expression s 16 at c.nodes t.nodes) (expression_full s 16 at c.nodes t.nodes q))
-  key_told vars at if_k h = one_told 4 (λ x. x) (λ x. 0) (plain_at s at)
-  key_told vars at return_k h =
+  key_told vars at K.If h = one_told 4 (λ x. x) (λ x. 0) (plain_at s at)
+  key_told vars at K.Return h =
       in_room _ _ _ (last_told 8 0 0 0 at (expr_once s 16 at c.nodes t.nodes) (expression s 16 at c.nodes t.nodes) (expression_read s 16 at c.nodes t.nodes))
       (λ q. line_limited 8 0 0 0 (expression s 16 at c.nodes t.nodes) (expression_full s 16 at c.nodes t.nodes q))
-  key_told vars at no_key h = none (sym h)
-  key_told vars at ret_k h = none (sym h)
-  key_told vars at type_k h = none (sym h)
-  key_told vars at param_k h = none (sym h)
-  key_told vars at local_k h = none (sym h)
-  key_told vars at goto_k h = none (sym h)
-  key_told vars at ifimm_k h = none (sym h)
-  key_told vars at iftag_k h = none (sym h)
-  key_told vars at ifint_k h = none (sym h)
-  key_told vars at label_k h = none (sym h)
+  key_told vars at K.Absent h = none (sym h)
+  key_told vars at K.Ret h = none (sym h)
+  key_told vars at K.Type h = none (sym h)
+  key_told vars at K.Param h = none (sym h)
+  key_told vars at K.Local h = none (sym h)
+  key_told vars at K.Goto h = none (sym h)
+  key_told vars at K.IfImm h = none (sym h)
+  key_told vars at K.IfTag h = none (sym h)
+  key_told vars at K.IfInt h = none (sym h)
+  key_told vars at K.Label h = none (sym h)
 
   pub line_told : (vars key at : ℕ) → has_expr (key_of key) ≡ true
       → Told (line_once s key at c.lines c.nodes t.nodes t.body) (line_shape s vars (key_of key) at) (fill_line s (key_of key) at c t)

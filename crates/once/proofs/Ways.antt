@@ -1,10 +1,12 @@
 -- Lines: one law for each way through their code. Assumes nothing.
 use borrow.Author.Tests.{lt-ltb, le-ltb, eq-eqb, ne_eqb}
+use Rattle.rules.specs.declared.Key.{Key}
+use Rattle.rules.specs.declared.Key.TheVariants as K
 use Rattle.std.specs.Prelude.{◌+◌, ◌≤◌, ◌<◌, ◌≡◌, Some, None}
 use Rattle.rules.specs.Prelude.{ℕ, false, List, refl, sym, ap, ◌∙◌}
 use Rattle.rules.specs.Text.Fill.{Filling}
 use Rattle.rules.specs.Text.Words.{byte_at}
-use Rattle.rules.specs.Text.Shape.{Key, no_key, ret_k, type_k, param_k, local_k, set_k, put_k, goto_k, if_k, ifimm_k, iftag_k, ifint_k, return_k, label_k, key_of}
+use Rattle.rules.specs.Text.Shape.{key_of}
 use Rattle.rules.specs.Text.Fill.{Out, out, put_line}
 use Rattle.once.proofs.Keys.{none}
 use Rattle.once.specs.Once.{Onced, once, last_once, rest_once, two_once, key_once, line_once, has_expr}
@@ -68,17 +70,17 @@ module _ (s : List ℕ) (key at i free : ℕ) (N B : List ℕ) where
   no_key_lem h = by (key_of key) h
     where
       by : (k : Key) → has_expr k ≡ false → key_once s k at i free N B ≡ once None N B
-      by no_key q = refl
-      by ret_k q = refl
-      by type_k q = refl
-      by param_k q = refl
-      by local_k q = refl
-      by set_k q = none q
-      by put_k q = none q
-      by goto_k q = refl
-      by if_k q = none q
-      by ifimm_k q = refl
-      by iftag_k q = refl
-      by ifint_k q = refl
-      by return_k q = none q
-      by label_k q = refl
+      by K.Absent q = refl
+      by K.Ret q = refl
+      by K.Type q = refl
+      by K.Param q = refl
+      by K.Local q = refl
+      by K.Set q = none q
+      by K.Put q = none q
+      by K.Goto q = refl
+      by K.If q = none q
+      by K.IfImm q = refl
+      by K.IfTag q = refl
+      by K.IfInt q = refl
+      by K.Return q = none q
+      by K.Label q = refl

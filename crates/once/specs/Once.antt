@@ -1,5 +1,7 @@
 -- A body line with expressions, read once: what is written while its shape and its limits are tested, up to the first test that fails. Assumes nothing.
 use Rattle.std.specs.Prelude.{◌+◌, ◌*◌, Some, None, Ok, Err}
+use Rattle.rules.specs.declared.Key.{Key}
+use Rattle.rules.specs.declared.Key.TheVariants as K
 use Rattle.rules.specs.Prelude.{ℕ, zero, suc, Bool, true, false, List, ltb, eqb, set}
 use Rattle.rules.specs.Text.Words.{Reading}
 use Rattle.rules.specs.Text.Words.{Head}
@@ -7,7 +9,7 @@ use Rattle.rules.specs.Text.Fill.{Filling}
 use Rattle.rules.specs.When.{when}
 use Rattle.rules.specs.Limits.{limits}
 use Rattle.rules.specs.Text.Words.{byte_at, plain_at, number_at, var_at, arity, head_at}
-use Rattle.rules.specs.Text.Shape.{Key, no_key, ret_k, type_k, param_k, local_k, set_k, put_k, goto_k, if_k, ifimm_k, iftag_k, ifint_k, return_k, label_k, key_of}
+use Rattle.rules.specs.Text.Shape.{key_of}
 use Rattle.rules.specs.Text.Fill.{Out, out, onward, put_line}
 
 -- on from what was read and the byte b after it, or stopped at the wrong byte
@@ -68,36 +70,36 @@ put_once s i k at N B = two_once s i k B (expr_once s limits.depth at k N)
 
 -- the lines that have one
 unfoldable pub has_expr : Key → Bool
-has_expr no_key = false
-has_expr ret_k = false
-has_expr type_k = false
-has_expr param_k = false
-has_expr local_k = false
-has_expr set_k = true
-has_expr put_k = true
-has_expr goto_k = false
-has_expr if_k = true
-has_expr ifimm_k = false
-has_expr iftag_k = false
-has_expr ifint_k = false
-has_expr return_k = true
-has_expr label_k = false
+has_expr K.Absent = false
+has_expr K.Ret = false
+has_expr K.Type = false
+has_expr K.Param = false
+has_expr K.Local = false
+has_expr K.Set = true
+has_expr K.Put = true
+has_expr K.Goto = false
+has_expr K.If = true
+has_expr K.IfImm = false
+has_expr K.IfTag = false
+has_expr K.IfInt = false
+has_expr K.Return = true
+has_expr K.Label = false
 
 unfoldable pub key_once : List ℕ → Key → ℕ → ℕ → ℕ → List ℕ → List ℕ → Onced
-key_once s no_key at i k N B = once None N B
-key_once s ret_k at i k N B = once None N B
-key_once s type_k at i k N B = once None N B
-key_once s param_k at i k N B = once None N B
-key_once s local_k at i k N B = once None N B
-key_once s set_k at i k N B = set_once s i k at N B
-key_once s put_k at i k N B = put_once s i k at N B
-key_once s goto_k at i k N B = once None N B
-key_once s if_k at i k N B = if_once s i k at N B
-key_once s ifimm_k at i k N B = once None N B
-key_once s iftag_k at i k N B = once None N B
-key_once s ifint_k at i k N B = once None N B
-key_once s return_k at i k N B = last_once s i k 8 0 0 0 B (expr_once s limits.depth at k N)
-key_once s label_k at i k N B = once None N B
+key_once s K.Absent at i k N B = once None N B
+key_once s K.Ret at i k N B = once None N B
+key_once s K.Type at i k N B = once None N B
+key_once s K.Param at i k N B = once None N B
+key_once s K.Local at i k N B = once None N B
+key_once s K.Set at i k N B = set_once s i k at N B
+key_once s K.Put at i k N B = put_once s i k at N B
+key_once s K.Goto at i k N B = once None N B
+key_once s K.If at i k N B = if_once s i k at N B
+key_once s K.IfImm at i k N B = once None N B
+key_once s K.IfTag at i k N B = once None N B
+key_once s K.IfInt at i k N B = once None N B
+key_once s K.Return at i k N B = last_once s i k 8 0 0 0 B (expr_once s limits.depth at k N)
+key_once s K.Label at i k N B = once None N B
 
 -- body line i from the place after its key on, whose first node is the first that is free
 unfoldable pub line_once : List ℕ → ℕ → ℕ → ℕ → ℕ → List ℕ → List ℕ → Onced

@@ -1,5 +1,7 @@
 -- When a label is there: the line that is kept for it has its number, as it stands in the body's table. Assumes nothing.
 use native.Mathlib.Omega.{arith as lin}
+use Rattle.rules.specs.declared.Way.{Way}
+use Rattle.rules.specs.declared.Way.TheVariants as W
 use borrow.Author.Tests.{lt-ltb, le-ltb, ne_eqb}
 use mathlib.Core.Path.{◌≡◌, refl, sym, ap, ◌∙◌}
 use mathlib.Core.Bool.{Bool, true, false}
@@ -12,21 +14,21 @@ use Rattle.rules.specs.When.{when}
 use Rattle.rules.specs.Numbers.{num_code}
 use Rattle.rules.specs.Limits.{limits}
 use Rattle.rules.specs.Program.{Expr, Stmt, bad_s, set_s, put_s, if_s, return_s, is_label, label_at, label_there}
-use Rattle.rules.specs.View.{labels_from, Walked, walked, tree_at, with_one, with_two, Way, no_w, set_w, put_w, goto_w, if_w, ifimm_w, iftag_w, ifint_w, return_w, label_w, way_of, stmt_of, stmt_from, body_from, program}
+use Rattle.rules.specs.View.{labels_from, Walked, walked, tree_at, with_one, with_two, way_of, stmt_of, stmt_from, body_from, program}
 use Rattle.program.specs.Lines.{stored_at, is_label_line, tables_of}
 use Rattle.program.proofs.Laws.{line_in_lem, line_view}
 
 abbrev label_way : Way → Bool
-label_way no_w = false
-label_way set_w = false
-label_way put_w = false
-label_way goto_w = false
-label_way if_w = false
-label_way ifimm_w = false
-label_way iftag_w = false
-label_way ifint_w = false
-label_way return_w = false
-label_way label_w = true
+label_way W.Absent = false
+label_way W.Set = false
+label_way W.Put = false
+label_way W.Goto = false
+label_way W.If = false
+label_way W.IfImm = false
+label_way W.IfTag = false
+label_way W.IfInt = false
+label_way W.Return = false
+label_way W.Label = true
 
 way_nine : (kind : ℕ) → label_way (way_of kind) ≡ eqb kind 9
 unfolding way_of
@@ -50,16 +52,16 @@ two_not N l n (walked x k) = refl
 
 way_label : (N : List ℕ) (y : Way) (l a v w k : ℕ) → is_label l (stmt_of N y a v w k) ≡ when (label_way y) (λ _. eqb a l) (λ _. false)
 unfolding stmt_of
-way_label N no_w l a v w k = refl
-way_label N set_w l a v w k = one_not l (set_s v) (λ x. refl) (tree_at N limits.depth k)
-way_label N put_w l a v w k = two_not N l (num_code w) (tree_at N limits.depth k)
-way_label N goto_w l a v w k = refl
-way_label N if_w l a v w k = one_not l (if_s a) (λ x. refl) (tree_at N limits.depth k)
-way_label N ifimm_w l a v w k = refl
-way_label N iftag_w l a v w k = refl
-way_label N ifint_w l a v w k = refl
-way_label N return_w l a v w k = one_not l return_s (λ x. refl) (tree_at N limits.depth k)
-way_label N label_w l a v w k = refl
+way_label N W.Absent l a v w k = refl
+way_label N W.Set l a v w k = one_not l (set_s v) (λ x. refl) (tree_at N limits.depth k)
+way_label N W.Put l a v w k = two_not N l (num_code w) (tree_at N limits.depth k)
+way_label N W.Goto l a v w k = refl
+way_label N W.If l a v w k = one_not l (if_s a) (λ x. refl) (tree_at N limits.depth k)
+way_label N W.IfImm l a v w k = refl
+way_label N W.IfTag l a v w k = refl
+way_label N W.IfInt l a v w k = refl
+way_label N W.Return l a v w k = one_not l return_s (λ x. refl) (tree_at N limits.depth k)
+way_label N W.Label l a v w k = refl
 
 pub label_view : (N B : List ℕ) (i l : ℕ) → is_label l (stmt_from N B i) ≡ is_label_line (stored_at B i) l
 unfolding is_label_line

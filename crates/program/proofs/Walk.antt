@@ -1,6 +1,9 @@
 -- Numbers that name no operation and no kind of line, or no operation with so many operands; the tree at a node, from its operands' trees; and what a function of trees that goes form by form gives for it.
 -- Assumes nothing.
 use native.Mathlib.Omega.{arith as lin}
+use Rattle.rules.specs.declared.Form.{Form}
+use Rattle.rules.specs.declared.Form.TheVariants as M
+use Rattle.rules.specs.declared.Way.TheVariants as W
 use native.Mathlib.Decide.{dec_lt, ℕ_discrete}
 use native.Mathlib.Numerals.{sub-one}
 use borrow.Author.Tests.{lt-ltb, le-ltb, ltb-true, ltb-false, eqb-true, ne_eqb}
@@ -14,7 +17,7 @@ use lib.ListN.{length, get_or, get_or-eq_default}
 use Rattle.rules.specs.declared.Op.TheVariants as O
 use Rattle.rules.specs.Numbers.{num_code}
 use Rattle.rules.specs.Program.{Expr, bad, lit, var, arith, val, int, fetch, step, Stmt}
-use Rattle.rules.specs.View.{Form, none, lit_f, var_f, fetch_f, int_f, val_f, step_f, calc, form_of, Walked, walked, one, two, tree_of, tree_node, tree_at, with_one, with_two, no_w, set_w, put_w, goto_w, if_w, ifimm_w, iftag_w, ifint_w, return_w, label_w, way_of}
+use Rattle.rules.specs.View.{form_of, Walked, walked, one, two, tree_of, tree_node, tree_at, with_one, with_two, way_of}
 use Rattle.program.specs.Nodes.{arity, after_of, within, leaf_at}
 
 -- ---- numbers that name nothing
@@ -39,20 +42,20 @@ unnamed_by l d n op s z h (no q) = let e : op ≡ 0 = omega (lin, q) in rw e z
 unnamed : {A : Type 0} (l : List A) (d : A) (n op : ℕ) → length l ≤ n + 1 → get_or l 0 d ≡ d → NoneTo n op → get_or l op d ≡ d
 unnamed l d n op s z h = unnamed_by l d n op s z h (dec_lt 0 op)
 
-pub form_rest : (op : ℕ) → NoneTo 11 op → form_of op ≡ none
+pub form_rest : (op : ℕ) → NoneTo 11 op → form_of op ≡ M.Absent
 unfolding form_of
 form_rest op h =
-    unnamed (none ∷ lit_f ∷ var_f ∷ fetch_f ∷ int_f ∷ val_f ∷ step_f ∷ calc O.Add ∷ calc O.Sub ∷ calc O.Mul ∷ calc O.Eq ∷ calc O.Lt ∷ []) none 11 op (omega lin) refl h
+    unnamed (M.Absent ∷ M.Lit ∷ M.Var ∷ M.Fetch ∷ M.Int ∷ M.Val ∷ M.Step ∷ M.Calc O.Add ∷ M.Calc O.Sub ∷ M.Calc O.Mul ∷ M.Calc O.Eq ∷ M.Calc O.Lt ∷ []) M.Absent 11 op (omega lin) refl h
 
-pub way_rest : (kind : ℕ) → NoneTo 9 kind → way_of kind ≡ no_w
+pub way_rest : (kind : ℕ) → NoneTo 9 kind → way_of kind ≡ W.Absent
 unfolding way_of
-way_rest kind h = unnamed (no_w ∷ set_w ∷ put_w ∷ goto_w ∷ if_w ∷ ifimm_w ∷ iftag_w ∷ ifint_w ∷ return_w ∷ label_w ∷ []) no_w 9 kind (omega lin) refl h
+way_rest kind h = unnamed (W.Absent ∷ W.Set ∷ W.Put ∷ W.Goto ∷ W.If ∷ W.IfImm ∷ W.IfTag ∷ W.IfInt ∷ W.Return ∷ W.Label ∷ []) W.Absent 9 kind (omega lin) refl h
 
 -- ---- operations by how many operands they have
 
 -- where the numbers of the operations with so many operands stand
 abbrev Span : ℕ → ℕ → Type 0
-Span zero op = (op < 3) ⊎ (form_of op ≡ none)
+Span zero op = (op < 3) ⊎ (form_of op ≡ M.Absent)
 Span (suc zero) op = (2 < op) × (op < 6)
 Span (suc (suc n)) op = (5 < op) × (op < 12)
 
@@ -72,13 +75,13 @@ span (suc (suc (suc (suc (suc (suc (suc (suc (suc (suc zero)))))))))) = (omega l
 span (suc (suc (suc (suc (suc (suc (suc (suc (suc (suc (suc zero))))))))))) = (omega lin, omega lin)
 span (suc (suc (suc (suc (suc (suc (suc (suc (suc (suc (suc (suc n)))))))))))) = inr refl
 
-form_zero : (op : ℕ) → op ≡ 0 → form_of op ≡ none
+form_zero : (op : ℕ) → op ≡ 0 → form_of op ≡ M.Absent
 unfolding form_of
 form_zero op e = rw e
 
 -- a number that is none of those with so many operands: without any, it names nothing; with one or two, there is none
 
-pub leaf_rest : (op : ℕ) → NoneTo 2 op → arity (form_of op) ≡ 0 → form_of op ≡ none
+pub leaf_rest : (op : ℕ) → NoneTo 2 op → arity (form_of op) ≡ 0 → form_of op ≡ M.Absent
 leaf_rest op h q = ⊎_elim (λ p. form_zero op (omega (lin, p, h.1, h.0.1))) (λ e. e) (subst (λ (n : ℕ). Span n op) q (span op))
 
 pub one_rest : (op : ℕ) → NoneOn 2 3 op → arity (form_of op) ≡ 1 → ⊥
@@ -96,11 +99,11 @@ two_rest op h q = let s = two_by op (arity (form_of op)) q.0 q.1 (span op) in om
 pub past_six : (op : ℕ) → 6 < op → (arity (form_of op) ≡ 0 → ⊥) → (arity (form_of op) ≡ 0 → ⊥) × (arity (form_of op) ≡ 1 → ⊥)
 past_six op h z = (z, one_rest op (((tt, λ q. omega (lin, q, h)), λ q. omega (lin, q, h)), λ q. omega (lin, q, h)))
 
-pub is_step : (op : ℕ) → (6 < op → ⊥) → (arity (form_of op) ≡ 0 → ⊥) → (arity (form_of op) ≡ 1 → ⊥) → form_of op ≡ step_f
+pub is_step : (op : ℕ) → (6 < op → ⊥) → (arity (form_of op) ≡ 0 → ⊥) → (arity (form_of op) ≡ 1 → ⊥) → form_of op ≡ M.Step
 unfolding form_of
 is_step op h z i = by (ℕ_discrete op 6)
   where
-    by : Dec (op ≡ 6) → form_of op ≡ step_f
+    by : Dec (op ≡ 6) → form_of op ≡ M.Step
     by (yes e) = rw e
     by (no n) = absurd (two_rest op ((((((tt, n), λ q. omega (lin, q, h)), λ q. omega (lin, q, h)), λ q. omega (lin, q, h)), λ q. omega (lin, q, h)), λ q. omega (lin, q, h)) (z, i))
 
@@ -176,14 +179,14 @@ module _ (N : List ℕ) (d k : ℕ) where
 
 -- the expression of a form, from its argument and the expressions of its operands
 abbrev pub expr_of : Form → ℕ → Expr → Expr → Expr
-expr_of none a p q = bad
-expr_of lit_f a p q = lit (num_code a)
-expr_of var_f a p q = var a
-expr_of fetch_f a p q = fetch p
-expr_of int_f a p q = int p
-expr_of val_f a p q = val a p
-expr_of step_f a p q = step p q
-expr_of (calc o) a p q = arith o p q
+expr_of M.Absent a p q = bad
+expr_of M.Lit a p q = lit (num_code a)
+expr_of M.Var a p q = var a
+expr_of M.Fetch a p q = fetch p
+expr_of M.Int a p q = int p
+expr_of M.Val a p q = val a p
+expr_of M.Step a p q = step p q
+expr_of (M.Calc o) a p q = arith o p q
 
 -- the node after a form with n operands: after itself, after its first operand, or after its second
 abbrev after_by : ℕ → ℕ → ℕ → ℕ → ℕ
@@ -211,24 +214,24 @@ with_two_lem N f (walked x n) = refl
 
 module _ (g : ℕ → Walked) (k a : ℕ) where
   tree_node_lem : (o : Form) → tree_of (tree_node g k o a) ≡ expr_of o a (tree_of (g (k + 1))) (tree_of (g (after_of (g (k + 1)))))
-  tree_node_lem none = refl
-  tree_node_lem lit_f = refl
-  tree_node_lem var_f = refl
-  tree_node_lem fetch_f = tree_one fetch (g (k + 1))
-  tree_node_lem int_f = tree_one int (g (k + 1))
-  tree_node_lem val_f = tree_one (val a) (g (k + 1))
-  tree_node_lem step_f = tree_two step g (g (k + 1))
-  tree_node_lem (calc o) = tree_two (arith o) g (g (k + 1))
+  tree_node_lem M.Absent = refl
+  tree_node_lem M.Lit = refl
+  tree_node_lem M.Var = refl
+  tree_node_lem M.Fetch = tree_one fetch (g (k + 1))
+  tree_node_lem M.Int = tree_one int (g (k + 1))
+  tree_node_lem M.Val = tree_one (val a) (g (k + 1))
+  tree_node_lem M.Step = tree_two step g (g (k + 1))
+  tree_node_lem (M.Calc o) = tree_two (arith o) g (g (k + 1))
 
   after_node : (o : Form) → after_of (tree_node g k o a) ≡ after_by (arity o) (k + 1) (after_of (g (k + 1))) (after_of (g (after_of (g (k + 1)))))
-  after_node none = refl
-  after_node lit_f = refl
-  after_node var_f = refl
-  after_node fetch_f = after_one fetch (g (k + 1))
-  after_node int_f = after_one int (g (k + 1))
-  after_node val_f = after_one (val a) (g (k + 1))
-  after_node step_f = after_two step g (g (k + 1))
-  after_node (calc o) = after_two (arith o) g (g (k + 1))
+  after_node M.Absent = refl
+  after_node M.Lit = refl
+  after_node M.Var = refl
+  after_node M.Fetch = after_one fetch (g (k + 1))
+  after_node M.Int = after_one int (g (k + 1))
+  after_node M.Val = after_one (val a) (g (k + 1))
+  after_node M.Step = after_two step g (g (k + 1))
+  after_node (M.Calc o) = after_two (arith o) g (g (k + 1))
 
 by_two : (n k x y : ℕ) → (n ≡ 0 → ⊥) → (n ≡ 1 → ⊥) → after_by n k x y ≡ y
 by_two zero k x y z i = absurd (z refl)

@@ -1,18 +1,20 @@
 -- Nodes in preorder: how many operands a form has, the node after a tree, and the nodes that are a tree by themselves. Assumes nothing.
 use Rattle.std.specs.Prelude.{◌/◌, ◌&&◌, ◌||◌}
+use Rattle.rules.specs.declared.Form.{Form}
+use Rattle.rules.specs.declared.Form.TheVariants as M
 use Rattle.rules.specs.Prelude.{ℕ, Bool, List, ltb, eqb, get_or}
 use Rattle.rules.specs.Limits.{limits}
-use Rattle.rules.specs.View.{Form, none, lit_f, var_f, fetch_f, int_f, val_f, step_f, calc, Walked, walked}
+use Rattle.rules.specs.View.{Walked, walked}
 
 abbrev pub arity : Form → ℕ
-arity none = 0
-arity lit_f = 0
-arity var_f = 0
-arity fetch_f = 1
-arity int_f = 1
-arity val_f = 1
-arity step_f = 2
-arity (calc o) = 2
+arity M.Absent = 0
+arity M.Lit = 0
+arity M.Var = 0
+arity M.Fetch = 1
+arity M.Int = 1
+arity M.Val = 1
+arity M.Step = 2
+arity (M.Calc o) = 2
 
 abbrev pub after_of : Walked → ℕ
 after_of (walked x n) = n

@@ -6,12 +6,12 @@ ghost use Rattle.rules.specs.Program.{psi_of, prods_of, fields_of, field_of, kin
 ghost use Rattle.rules.specs.Environments.{no_var, covers_env};
 ghost use Rattle.rules.specs.Text.Layout.{cell, row_width, var_width, label_width, zeros};
 ghost use Rattle.rules.specs.Text.Fill.{put_var, put_field, put_line, put_entry};
-ghost use Rattle.rules.specs.View.{tab, psi_code, kind_code, entry_from, form_of, rows_from, vars_from, labels_from, body_from, program};
+ghost use Rattle.rules.specs.View.{tab, psi_code, kind_code, entry_from, form_of, way_of, rows_from, vars_from, labels_from, body_from, program};
 ghost use Rattle.program.specs.Lines.{stored_at, is_label_line, tables_of};
 ghost use Rattle.program.specs.Labels.{Whole, env_from, codes_from};
 ghost use Rattle.program.specs.Nodes.{arity, within, leaf_at};
 
-use rules::{Boxed, Entry, Env, Kind, Limits, Num, Offset, Psi, Tag};
+use rules::{Boxed, Entry, Env, Form, Kind, Limits, Num, Offset, Op, Psi, Tag, Way};
 
 // How many numbers each thing has in its table.
 const ROW_WIDTH: usize = 274;
@@ -340,6 +340,46 @@ pub fn argument(nodes: &[u64; 4096], k: usize) -> u32
     ensures { result ≡ get_or nodes.now k 0 % 4294967296 }
 {
     (table::at64(nodes, k) % 4294967296) as u32
+}
+
+// What a node of operation op is.
+#[tactic(auto, using(crate::proofs::Walk::form_rest), unfolding(rules::specs::View::form_of))]
+pub fn form_of(op: u32) -> Form
+    ensures { result ≡ form_of op }
+{
+    match op {
+        1 => Form::Lit,
+        2 => Form::Var,
+        3 => Form::Fetch,
+        4 => Form::Int,
+        5 => Form::Val,
+        6 => Form::Step,
+        7 => Form::Calc(Op::Add),
+        8 => Form::Calc(Op::Sub),
+        9 => Form::Calc(Op::Mul),
+        10 => Form::Calc(Op::Eq),
+        11 => Form::Calc(Op::Lt),
+        _ => Form::Absent,
+    }
+}
+
+// What a body line of so a kind is.
+#[tactic(auto, using(crate::proofs::Walk::way_rest), unfolding(rules::specs::View::way_of))]
+pub fn way_of(kind: u32) -> Way
+    ensures { result ≡ way_of kind }
+{
+    match kind {
+        1 => Way::Set,
+        2 => Way::Put,
+        3 => Way::Goto,
+        4 => Way::If,
+        5 => Way::IfImm,
+        6 => Way::IfTag,
+        7 => Way::IfInt,
+        8 => Way::Return,
+        9 => Way::Label,
+        _ => Way::Absent,
+    }
 }
 
 // How many operands a node of operation op has: as many expressions come after it.

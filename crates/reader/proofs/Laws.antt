@@ -1,5 +1,7 @@
 -- Bounds: what a word is and where it ends, and that counts stay within the limits from line to line; and what the answer and the tables are, taken apart. Assumes nothing.
 use mathlib.Core.Logic.{⊎_elim}
+use Rattle.rules.specs.declared.Key.{Key}
+use Rattle.rules.specs.declared.Key.TheVariants as K
 use native.Mathlib.Nat.{eq-zero-or-pos}
 use native.Mathlib.Omega.{arith}
 use borrow.Author.Tests.{ltb-true, eqb-true, eq-eqb, ne_eqb}
@@ -12,7 +14,7 @@ use Rattle.rules.specs.Text.Words.{Next}
 use Rattle.rules.proofs.Laws.Tests.{by_when}
 use Rattle.rules.specs.Text.{TextOut, Lined, lined, limited, shaped, keyed, line_at}
 use Rattle.rules.specs.Text.Words.{byte_at, value_of, next_of, plain_at, number_at, var_at}
-use Rattle.rules.specs.Text.Shape.{Key, no_key, ret_k, type_k, param_k, local_k, set_k, put_k, goto_k, if_k, ifimm_k, iftag_k, ifint_k, return_k, label_k, kind_word, psi_at, key_of, key_at, line_shape, in_order}
+use Rattle.rules.specs.Text.Shape.{kind_word, psi_at, key_of, key_at, line_shape, in_order}
 use Rattle.rules.specs.Text.Layout.{Tables, row_width}
 use Rattle.rules.specs.Text.Fill.{Filled, filled, Out, out, expression, kind_value, kind_next, add_var, Fields, fields, fill_ret, fill_param, fill_local, fill_products, add_row, fill_type, plain_line, expr_line, fill_set, fill_put_two, fill_put, fill_goto, fill_if, fill_ifimm, fill_test, fill_return, fill_label, one_more, fill_line}
 use Rattle.text.proofs.Laws.{inside, Reads, value_most, next_most}
@@ -135,20 +137,20 @@ module _ (s : List ℕ) (at : ℕ) (c : Count) (t : Tables) (h : Within c) where
 
   fill_fits : (k : Key) → FitsFilled (fill_line s k at c t)
   unfolding fill_line fill_ret fill_param fill_local fill_set fill_put fill_goto fill_if fill_ifimm fill_test fill_return
-  fill_fits no_key = h
-  fill_fits ret_k = h
-  fill_fits type_k = type_fits
-  fill_fits param_k = var_fits _ 1 0
-  fill_fits local_k = var_fits _ 2 _
-  fill_fits set_k = more_fits _ (λ r. expr_fits r 1 0 (value_of (var_at s at)) 0 (next_of (var_at s at) + 1) c.nodes t.nodes)
-  fill_fits put_k = more_fits _ (λ r. put_fits r (expression s 16 at c.nodes t.nodes))
-  fill_fits goto_k = more_fits _ (λ r. plain_fits r t 3 _ 0 0)
-  fill_fits if_k = more_fits _ (λ r. expr_fits r 4 (value_of (plain_at s at)) 0 0 (next_of (plain_at s at) + 1) c.nodes t.nodes)
-  fill_fits ifimm_k = more_fits _ (λ r. plain_fits r t 5 _ _ 0)
-  fill_fits iftag_k = more_fits _ (λ r. plain_fits r t 6 _ _ _)
-  fill_fits ifint_k = more_fits _ (λ r. plain_fits r t 7 _ _ _)
-  fill_fits return_k = more_fits _ (λ r. expr_fits r 8 0 0 0 at c.nodes t.nodes)
-  fill_fits label_k = more_fits _ (λ r. label_fits r)
+  fill_fits K.Absent = h
+  fill_fits K.Ret = h
+  fill_fits K.Type = type_fits
+  fill_fits K.Param = var_fits _ 1 0
+  fill_fits K.Local = var_fits _ 2 _
+  fill_fits K.Set = more_fits _ (λ r. expr_fits r 1 0 (value_of (var_at s at)) 0 (next_of (var_at s at) + 1) c.nodes t.nodes)
+  fill_fits K.Put = more_fits _ (λ r. put_fits r (expression s 16 at c.nodes t.nodes))
+  fill_fits K.Goto = more_fits _ (λ r. plain_fits r t 3 _ 0 0)
+  fill_fits K.If = more_fits _ (λ r. expr_fits r 4 (value_of (plain_at s at)) 0 0 (next_of (plain_at s at) + 1) c.nodes t.nodes)
+  fill_fits K.IfImm = more_fits _ (λ r. plain_fits r t 5 _ _ 0)
+  fill_fits K.IfTag = more_fits _ (λ r. plain_fits r t 6 _ _ _)
+  fill_fits K.IfInt = more_fits _ (λ r. plain_fits r t 7 _ _ _)
+  fill_fits K.Return = more_fits _ (λ r. expr_fits r 8 0 0 0 at c.nodes t.nodes)
+  fill_fits K.Label = more_fits _ (λ r. label_fits r)
 
   limited_fits : (k n : ℕ) (x : Filled) → FitsFilled x → FitsLined (limited k n x)
   limited_fits k n (filled true d u) f = f

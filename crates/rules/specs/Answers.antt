@@ -7,7 +7,7 @@
 -- Store: 21 too long, line 0 · 22 shape, or too few or many `arg` lines · 23 limit · 24 row or block absent
 -- 25 tag not in the row or wrong number of cells · 26 a cell does not fit `any,0,any` · 27 an argument does not fit
 use Rattle.std.specs.Prelude.{◌+◌, ◌-◌, ◌∷◌}
-use Rattle.rules.specs.Prelude.{ℕ, Bool, List, [], ltb, eqb, get_or, Answer, Verdict}
+use Rattle.rules.specs.Prelude.{ℕ, Bool, List, [], ltb, eqb, get_or, Result, Ok, Err, Answer, Verdict}
 use Rattle.rules.specs.Prelude.C
 use Rattle.rules.specs.When.{One, when}
 
@@ -23,6 +23,10 @@ passes a = eqb a.number 0
 -- a stage, and the next one if it refuses nothing
 abbrev pub and_then : Answer → (One → Answer) → Answer
 and_then a later = when (passes a) later (λ _. a)
+
+-- an answer as code hands it on: nothing where it is 0, and else as an error
+abbrev pub outcome : Answer → Result Unit Answer
+outcome a = when (passes a) (λ _. Ok tt) (λ _. Err a)
 
 -- a stage line by line: the first of the numbers, one for each line from `line` on, that is not 0
 unfoldable pub first : ℕ → List ℕ → Answer

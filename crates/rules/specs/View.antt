@@ -1,5 +1,9 @@
 -- What the tables mean: any numbers in them give a program. 0 names nothing; past a table's end is 0. Assumes nothing.
 use Rattle.std.specs.Prelude.{◌+◌, ◌-◌, ◌*◌, ◌/◌, ◌%◌, ◌∷◌}
+use Rattle.rules.specs.declared.Form.{Form}
+use Rattle.rules.specs.declared.Way.{Way}
+use Rattle.rules.specs.declared.Form.TheVariants as M
+use Rattle.rules.specs.declared.Way.TheVariants as W
 use Rattle.rules.specs.Prelude.{ℕ, zero, suc, List, [], ltb, eqb, get_or, Boxed, Offset, Tag, Entry, Kind, Cint, Value, Psi, Inf, Upto, Op}
 use Rattle.rules.specs.Prelude.B
 use Rattle.rules.specs.Prelude.I
@@ -64,23 +68,19 @@ one f (walked x n) = walked (f x) n
 abbrev pub two : (Expr → Expr → Expr) → (ℕ → Walked) → Walked → Walked
 two f g (walked x n) = one (f x) (g n)
 
-pub data Form : Type 0 where
-  none lit_f var_f fetch_f int_f val_f step_f : Form
-  calc : Op → Form
-
 unfoldable pub form_of : ℕ → Form
-form_of op = get_or (none ∷ lit_f ∷ var_f ∷ fetch_f ∷ int_f ∷ val_f ∷ step_f ∷ calc O.Add ∷ calc O.Sub ∷ calc O.Mul ∷ calc O.Eq ∷ calc O.Lt ∷ []) op none
+form_of op = get_or (M.Absent ∷ M.Lit ∷ M.Var ∷ M.Fetch ∷ M.Int ∷ M.Val ∷ M.Step ∷ M.Calc O.Add ∷ M.Calc O.Sub ∷ M.Calc O.Mul ∷ M.Calc O.Eq ∷ M.Calc O.Lt ∷ []) op M.Absent
 
 -- the tree at node k, from the trees g of nodes one level down
 abbrev pub tree_node : (ℕ → Walked) → ℕ → Form → ℕ → Walked
-tree_node g k none a = walked bad (k + 1)
-tree_node g k lit_f a = walked (lit (num_code a)) (k + 1)
-tree_node g k var_f a = walked (var a) (k + 1)
-tree_node g k fetch_f a = one fetch (g (k + 1))
-tree_node g k int_f a = one int (g (k + 1))
-tree_node g k val_f a = one (val a) (g (k + 1))
-tree_node g k step_f a = two step g (g (k + 1))
-tree_node g k (calc o) a = two (arith o) g (g (k + 1))
+tree_node g k M.Absent a = walked bad (k + 1)
+tree_node g k M.Lit a = walked (lit (num_code a)) (k + 1)
+tree_node g k M.Var a = walked (var a) (k + 1)
+tree_node g k M.Fetch a = one fetch (g (k + 1))
+tree_node g k M.Int a = one int (g (k + 1))
+tree_node g k M.Val a = one (val a) (g (k + 1))
+tree_node g k M.Step a = two step g (g (k + 1))
+tree_node g k (M.Calc o) a = two (arith o) g (g (k + 1))
 
 unfoldable pub tree_at : List ℕ → ℕ → ℕ → Walked
 tree_at N zero k = walked bad k
@@ -101,23 +101,20 @@ with_one f (walked x n) = f x
 abbrev pub with_two : List ℕ → (Expr → Expr → Stmt) → Walked → Stmt
 with_two N f (walked x n) = f x (tree_of (tree_at N limits.depth n))
 
-pub data Way : Type 0 where
-  no_w set_w put_w goto_w if_w ifimm_w iftag_w ifint_w return_w label_w : Way
-
 unfoldable pub way_of : ℕ → Way
-way_of kind = get_or (no_w ∷ set_w ∷ put_w ∷ goto_w ∷ if_w ∷ ifimm_w ∷ iftag_w ∷ ifint_w ∷ return_w ∷ label_w ∷ []) kind no_w
+way_of kind = get_or (W.Absent ∷ W.Set ∷ W.Put ∷ W.Goto ∷ W.If ∷ W.IfImm ∷ W.IfTag ∷ W.IfInt ∷ W.Return ∷ W.Label ∷ []) kind W.Absent
 
 unfoldable pub stmt_of : List ℕ → Way → ℕ → ℕ → ℕ → ℕ → Stmt
-stmt_of N no_w l v w k = bad_s
-stmt_of N set_w l v w k = with_one (set_s v) (tree_at N limits.depth k)
-stmt_of N put_w l v w k = with_two N (λ x y. put_s x (num_code w) y) (tree_at N limits.depth k)
-stmt_of N goto_w l v w k = goto_s l
-stmt_of N if_w l v w k = with_one (if_s l) (tree_at N limits.depth k)
-stmt_of N ifimm_w l v w k = ifimm_s l v
-stmt_of N iftag_w l v w k = iftag_s l v (num_code w)
-stmt_of N ifint_w l v w k = ifint_s l v (num_code w)
-stmt_of N return_w l v w k = with_one return_s (tree_at N limits.depth k)
-stmt_of N label_w l v w k = label_s l
+stmt_of N W.Absent l v w k = bad_s
+stmt_of N W.Set l v w k = with_one (set_s v) (tree_at N limits.depth k)
+stmt_of N W.Put l v w k = with_two N (λ x y. put_s x (num_code w) y) (tree_at N limits.depth k)
+stmt_of N W.Goto l v w k = goto_s l
+stmt_of N W.If l v w k = with_one (if_s l) (tree_at N limits.depth k)
+stmt_of N W.IfImm l v w k = ifimm_s l v
+stmt_of N W.IfTag l v w k = iftag_s l v (num_code w)
+stmt_of N W.IfInt l v w k = ifint_s l v (num_code w)
+stmt_of N W.Return l v w k = with_one return_s (tree_at N limits.depth k)
+stmt_of N W.Label l v w k = label_s l
 
 unfoldable pub stmt_from : List ℕ → List ℕ → ℕ → Stmt
 stmt_from N B i = stmt_of N (way_of (cell B line_width i 0)) (cell B line_width i 1) (cell B line_width i 2) (cell B line_width i 3) (cell B line_width i 4)

@@ -161,6 +161,53 @@ pub enum Op {
     Lt,
 }
 
+// What a node of an expression is, by the operation in its table.
+#[derive(Clone, Copy)]
+pub enum Form {
+    Absent,
+    Lit,
+    Var,
+    Fetch,
+    Int,
+    Val,
+    Step,
+    Calc(Op),
+}
+
+// What a body line is, by the kind in its table.
+#[derive(Clone, Copy)]
+pub enum Way {
+    Absent,
+    Set,
+    Put,
+    Goto,
+    If,
+    IfImm,
+    IfTag,
+    IfInt,
+    Return,
+    Label,
+}
+
+// What a line of a glue text begins with.
+#[derive(Clone, Copy)]
+pub enum Key {
+    Absent,
+    Ret,
+    Type,
+    Param,
+    Local,
+    Set,
+    Put,
+    Goto,
+    If,
+    IfImm,
+    IfTag,
+    IfInt,
+    Return,
+    Label,
+}
+
 #[derive(Clone, Copy)]
 pub enum Datum {
     Int(Num),

@@ -1,5 +1,6 @@
 -- The shapes of lines at a place of a text: one law for each way that the code goes. Assumes nothing.
 use mathlib.Core.Logic.{⊎_elim}
+use Rattle.rules.specs.declared.Key.TheVariants as K
 use native.Mathlib.Nat.{lt_irrefl, eq-zero-or-pos}
 use native.Mathlib.Numerals.{sub-one}
 use native.Mathlib.Omega.{arith}
@@ -13,7 +14,7 @@ use Rattle.rules.specs.Text.Words.{Head}
 use Rattle.rules.specs.Bytes.{bytes}
 use Rattle.rules.proofs.Laws.Tests.{by_when}
 use Rattle.rules.specs.Text.Words.{byte_at, plain_at, byte_is, arity, head_at}
-use Rattle.rules.specs.Text.Shape.{after, over, end, space, needed, expr_on, exprs_shape, fields_on, fields_shape, entry_shape, more_entries, label_shape, no_key, key_at, key_of}
+use Rattle.rules.specs.Text.Shape.{after, over, end, space, needed, expr_on, exprs_shape, fields_on, fields_shape, entry_shape, more_entries, label_shape, key_at, key_of}
 use Rattle.text.proofs.Chain.{only, chain, chain_by, chain_none}
 
 -- ---- one after the other: the code goes on from what came out, the definitions go into it
@@ -189,6 +190,6 @@ above (suc j) k p (o, n) =
     let h : j < k = above j k p o in
     ⊎_elim (λ e. absurd (n (omega arith))) (λ q. omega arith) (eq-zero-or-pos (k - suc j))
 
-pub no_key_lem : (k : ℕ) → Others 13 k → key_of k ≡ no_key
+pub no_key_lem : (k : ℕ) → Others 13 k → key_of k ≡ K.Absent
 unfolding key_of
 no_key_lem k o = ⊎_elim (λ e. rw e) (λ p. let h : 13 < k = above 13 k p o in rw get_or-eq_default) (eq-zero-or-pos k)

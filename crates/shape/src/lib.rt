@@ -5,7 +5,7 @@ ghost use Rattle.std.specs.Prelude.{◌≡◌, ◌||◌, ◌≤◌, max, eqb, le
 ghost use Rattle.rules.specs.Text.Words as words;
 ghost use Rattle.rules.specs.Text.Shape as shapes;
 
-use rules::{Head, Next, Reading};
+use rules::{Head, Key, Next, Reading};
 use text::{arity, byte_at, byte_is, head_at, number_at, or_word, plain_at, var_at};
 
 // ---- one after the other
@@ -309,7 +309,7 @@ fn then_expr(s: &[u8], r: Reading) -> Next
 // `put=E N E`
 #[tactic(auto, using(crate::proofs::Ways::next_marks), unfolding(rules::specs::Text::Shape::line_shape))]
 fn put_shape(s: &[u8], at: usize) -> Next
-    ensures { result ≡ shapes.line_shape s.now 0 shapes.put_k at }
+    ensures { result ≡ shapes.line_shape s.now 0 Key.Put at }
 {
     let number = number_on(s, mark_on(s, expr_shape(s, at), b' '));
     expr_on(s, mark_on(s, number, b' '))
@@ -318,7 +318,7 @@ fn put_shape(s: &[u8], at: usize) -> Next
 // `ifimm=L V`
 #[tactic(auto, using(crate::proofs::Ways::read_mark), unfolding(rules::specs::Text::Shape::line_shape))]
 fn ifimm_shape(s: &[u8], at: usize) -> Next
-    ensures { result ≡ shapes.line_shape s.now 0 shapes.ifimm_k at }
+    ensures { result ≡ shapes.line_shape s.now 0 Key.IfImm at }
 {
     var_on(s, mark_on(s, ended(plain_at(s, at)), b' '))
 }
@@ -326,7 +326,7 @@ fn ifimm_shape(s: &[u8], at: usize) -> Next
 // `iftag=L V N`, and `ifint=L V N`
 #[tactic(auto, using(crate::proofs::Ways::read_mark, crate::proofs::Ways::read_marks), unfolding(rules::specs::Text::Shape::line_shape))]
 fn iftag_shape(s: &[u8], at: usize) -> Next
-    ensures { result ≡ shapes.line_shape s.now 0 shapes.iftag_k at }
+    ensures { result ≡ shapes.line_shape s.now 0 Key.IfTag at }
 {
     number_on(s, mark_on(s, ifimm_shape(s, at), b' '))
 }
@@ -362,6 +362,29 @@ pub fn key_at(s: &[u8], at: usize) -> Reading
         115 => or_word(s, at, b"set=", 5, Err(at)),
         116 => or_word(s, at, b"type=", 2, Err(at)),
         _ => Err(at),
+    }
+}
+
+// The key of a number; no other number is one.
+#[tactic(auto, using(crate::proofs::Ways::no_key_lem), unfolding(rules::specs::Text::Shape::key_of))]
+pub fn key_of(k: u64) -> Key
+    ensures { result ≡ shapes.key_of k }
+{
+    match k {
+        1 => Key::Ret,
+        2 => Key::Type,
+        3 => Key::Param,
+        4 => Key::Local,
+        5 => Key::Set,
+        6 => Key::Put,
+        7 => Key::Goto,
+        8 => Key::If,
+        9 => Key::IfImm,
+        10 => Key::IfTag,
+        11 => Key::IfInt,
+        12 => Key::Return,
+        13 => Key::Label,
+        _ => Key::Absent,
     }
 }
 

@@ -1,5 +1,6 @@
 -- An address that is found in viewed rows is small; and an expression's judgement from those of its operands. Assumes nothing.
 use Rattle.std.specs.Prelude.{Ok, Err}
+use Rattle.rules.specs.declared.Form.TheVariants as M
 use mathlib.Core.Path.{◌≡◌, refl, sym, ap, ap₂, subst}
 use mathlib.Core.List.{List}
 use Prim.Native.Nat.{ℕ, ◌<◌}
@@ -17,7 +18,7 @@ use Rattle.rules.specs.Typing.{Judged}
 use Rattle.rules.specs.When.{need}
 use Rattle.rules.specs.Numbers.{among, nat_of}
 use Rattle.rules.specs.Program.{Rows, Var, psi_of, prods_of, fields_of}
-use Rattle.rules.specs.View.{rows_from, form_of, none, lit_f, var_f, fetch_f, int_f, val_f, step_f, calc, tree_of, tree_at}
+use Rattle.rules.specs.View.{rows_from, form_of, tree_of, tree_at}
 use Rattle.rules.specs.Typing.{Spot, nowhere, spot, spot_of, lone, addr_at, addr_spot, address_of, ty_arith, ty_val, ty_int, ty_fetch, ty_step, type}
 use Rattle.rules.proofs.Laws.Tests.{held, by_need}
 use Rattle.program.specs.Nodes.{after_of}
@@ -57,16 +58,16 @@ module _ (Z R : List ℕ) (r : ℕ) where
 
 pub folds : (ρ : Rows) (D : List Var) (Γ : Env) → Folds (type ρ D Γ) (form ρ D Γ)
 unfolding form type
-folds ρ D Γ none a p q x y ex ey = refl
-folds ρ D Γ lit_f a p q x y ex ey = refl
-folds ρ D Γ var_f a p q x y ex ey = refl
-folds ρ D Γ fetch_f a p q x y ex ey = ap (ty_fetch ρ) (sym (ex (omega lin)))
-folds ρ D Γ int_f a p q x y ex ey = ap (ty_int ρ) (sym (ex (omega lin)))
-folds ρ D Γ val_f a p q x y ex ey = ap (ty_val ρ a) (sym (ex (omega lin)))
-folds ρ D Γ step_f a p q x y ex ey = ap₂ (ty_step ρ) (sym (ex (omega lin))) (sym (ey (omega lin)))
-folds ρ D Γ (calc o) a p q x y ex ey = ap₂ (ty_arith o) (sym (ex (omega lin))) (sym (ey (omega lin)))
+folds ρ D Γ M.Absent a p q x y ex ey = refl
+folds ρ D Γ M.Lit a p q x y ex ey = refl
+folds ρ D Γ M.Var a p q x y ex ey = refl
+folds ρ D Γ M.Fetch a p q x y ex ey = ap (ty_fetch ρ) (sym (ex (omega lin)))
+folds ρ D Γ M.Int a p q x y ex ey = ap (ty_int ρ) (sym (ex (omega lin)))
+folds ρ D Γ M.Val a p q x y ex ey = ap (ty_val ρ a) (sym (ex (omega lin)))
+folds ρ D Γ M.Step a p q x y ex ey = ap₂ (ty_step ρ) (sym (ex (omega lin))) (sym (ey (omega lin)))
+folds ρ D Γ (M.Calc o) a p q x y ex ey = ap₂ (ty_arith o) (sym (ex (omega lin))) (sym (ey (omega lin)))
 
-pub step_form : (ρ : Rows) (D : List Var) (Γ : Env) (op a : ℕ) (x y : Judged) → form_of op ≡ step_f → ty_step ρ x y ≡ form ρ D Γ (form_of op) a x y
+pub step_form : (ρ : Rows) (D : List Var) (Γ : Env) (op a : ℕ) (x y : Judged) → form_of op ≡ M.Step → ty_step ρ x y ≡ form ρ D Γ (form_of op) a x y
 unfolding form
 step_form ρ D Γ op a x y e = rw e
 

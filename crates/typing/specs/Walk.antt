@@ -1,5 +1,7 @@
 -- The judgement of the tree at a node, with the node after it; and a node's judgement from its operands'. Assumes nothing.
 use Rattle.std.specs.Prelude.{◌≡◌, Ok, Err}
+use Rattle.rules.specs.declared.Form.{Form}
+use Rattle.rules.specs.declared.Form.TheVariants as M
 use Rattle.rules.specs.Prelude.{ℕ, List, refl}
 use Rattle.rules.specs.declared.Env.{Env}
 use Rattle.rules.specs.declared.Kind.TheVariants.{Cint, Value}
@@ -8,7 +10,7 @@ use Rattle.rules.specs.declared.Tag.TheVariants as G
 use Rattle.rules.specs.Typing.{Judged}
 use Rattle.rules.specs.Numbers.{num_code}
 use Rattle.rules.specs.Program.{Rows, Var}
-use Rattle.rules.specs.View.{Form, none, lit_f, var_f, fetch_f, int_f, val_f, step_f, calc, tree_of, tree_at}
+use Rattle.rules.specs.View.{tree_of, tree_at}
 use Rattle.rules.specs.Typing.{int_entry, ty_var, ty_arith, ty_val, ty_int, ty_fetch, ty_step, type}
 use Rattle.program.specs.Nodes.{after_of}
 use Rattle.typing.specs.declared.Found.{Found}
@@ -30,14 +32,14 @@ arith_tags o (Ok (Value r, e)) (Ok (l, d)) = refl
 
 -- a node's judgement, from its argument and the judgements of its operands
 unfoldable pub form : Rows → List Var → Env → Form → ℕ → Judged → Judged → Judged
-form ρ D Γ none a x y = Err 4
-form ρ D Γ lit_f a x y = Ok (Cint, int_entry (G.Known (num_code a)))
-form ρ D Γ var_f a x y = ty_var D Γ a
-form ρ D Γ fetch_f a x y = ty_fetch ρ x
-form ρ D Γ int_f a x y = ty_int ρ x
-form ρ D Γ val_f a x y = ty_val ρ a x
-form ρ D Γ step_f a x y = ty_step ρ x y
-form ρ D Γ (calc o) a x y = ty_arith o x y
+form ρ D Γ M.Absent a x y = Err 4
+form ρ D Γ M.Lit a x y = Ok (Cint, int_entry (G.Known (num_code a)))
+form ρ D Γ M.Var a x y = ty_var D Γ a
+form ρ D Γ M.Fetch a x y = ty_fetch ρ x
+form ρ D Γ M.Int a x y = ty_int ρ x
+form ρ D Γ M.Val a x y = ty_val ρ a x
+form ρ D Γ M.Step a x y = ty_step ρ x y
+form ρ D Γ (M.Calc o) a x y = ty_arith o x y
 
 abbrev pub found : Judged → ℕ → Found
 found j n = record { judged = j; next = n }

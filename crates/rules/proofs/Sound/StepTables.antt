@@ -1,5 +1,9 @@
 -- The machine's tables: a step on tables is a step on what they mean, whatever numbers stand in them. Assumes nothing.
 use Rattle.std.proofs.Math.Dec.{T, ltb→lt}
+use Rattle.rules.specs.declared.Form.{Form}
+use Rattle.rules.specs.declared.Way.{Way}
+use Rattle.rules.specs.declared.Form.TheVariants as M
+use Rattle.rules.specs.declared.Way.TheVariants as Ws
 use Rattle.std.proofs.Math.ListN.{length-set}
 use Rattle.std.proofs.Common.{get_or-set_same, get_or-set_other}
 use native.Mathlib.Omega.{arith as lin}
@@ -12,7 +16,7 @@ use Rattle.rules.specs.Numbers.{eq_z, zero_n, same_num, num_code}
 use Rattle.rules.specs.Limits.{limits}
 use Rattle.rules.specs.Text.Layout.{Tables, cell}
 use Rattle.rules.specs.Program.{Rows, row_there, Expr, bad, lit, var, arith, val, int, fetch, step, Stmt, bad_s, set_s, put_s, goto_s, if_s, ifimm_s, iftag_s, ifint_s, return_s, label_s, label_there, Prog}
-use Rattle.rules.specs.View.{body_from, vars_from, form_of, Walked, walked, one, two, tree_node, tree_at, Form, none, lit_f, var_f, fetch_f, int_f, val_f, step_f, calc, with_one, with_two, tree_of, Way, no_w, set_w, put_w, goto_w, if_w, ifimm_w, iftag_w, ifint_w, return_w, label_w, stmt_of, stmt_from, program, tab, up_to}
+use Rattle.rules.specs.View.{body_from, vars_from, form_of, Walked, walked, one, two, tree_node, tree_at, with_one, with_two, tree_of, stmt_of, stmt_from, program, tab, up_to}
 use Rattle.rules.specs.Machine.Tables.{block_width, head_width, run_t, datum_code, code_of, MTables, block_from, store_of, vals_of, machine, apply_t, step_from_t, step_t}
 use Rattle.rules.specs.Machine.{tag_in, ev_arith, ev_val, ev_int, ev_fetch, ev_step, need_place, no_block, ev_var, moved, eval, jump_if, jump_on, store_at, act_set, act_put, act_if, act_ifimm, act_iftag, act_ifint, act_return, act, inside, cells_in, cell_at, run_of, Store, decide, set_cell, apply, step_from, step_of}
 use Rattle.rules.proofs.Laws.Tests.{by_need, and_both}
@@ -111,14 +115,14 @@ two_small : (f : Expr → Expr → Expr) → ((x y : Expr) → SmallE x → Smal
 two_small f h g q (walked x n) p = one_small (f x) (λ y. h x y p) (g n) (q n)
 
 node_small : (g : ℕ → Walked) → ((k : ℕ) → SmallW (g k)) → (k : ℕ) (φ : Form) (a : ℕ) → SmallW (tree_node g k φ a)
-node_small g q k none a = tt
-node_small g q k lit_f a = word_is_small a
-node_small g q k var_f a = tt
-node_small g q k fetch_f a = one_small fetch (λ x p. p) (g (k + 1)) (q (k + 1))
-node_small g q k int_f a = one_small int (λ x p. p) (g (k + 1)) (q (k + 1))
-node_small g q k val_f a = one_small (val a) (λ x p. p) (g (k + 1)) (q (k + 1))
-node_small g q k step_f a = two_small step (λ x y p r. (p, r)) g q (g (k + 1)) (q (k + 1))
-node_small g q k (calc o) a = two_small (arith o) (λ x y p r. (p, r)) g q (g (k + 1)) (q (k + 1))
+node_small g q k M.Absent a = tt
+node_small g q k M.Lit a = word_is_small a
+node_small g q k M.Var a = tt
+node_small g q k M.Fetch a = one_small fetch (λ x p. p) (g (k + 1)) (q (k + 1))
+node_small g q k M.Int a = one_small int (λ x p. p) (g (k + 1)) (q (k + 1))
+node_small g q k M.Val a = one_small (val a) (λ x p. p) (g (k + 1)) (q (k + 1))
+node_small g q k M.Step a = two_small step (λ x y p r. (p, r)) g q (g (k + 1)) (q (k + 1))
+node_small g q k (M.Calc o) a = two_small (arith o) (λ x y p r. (p, r)) g q (g (k + 1)) (q (k + 1))
 
 tree_small : (N : List ℕ) (d k : ℕ) → SmallW (tree_at N d k)
 unfolding tree_at
@@ -141,16 +145,16 @@ two_line N f h (walked x n) p = go (tree_at N limits.depth n) (tree_small N limi
 
 line_small : (N : List ℕ) (way : Way) (l v w k : ℕ) → SmallS (stmt_of N way l v w k)
 unfolding stmt_of
-line_small N no_w l v w k = tt
-line_small N set_w l v w k = one_line_lem (set_s v) (λ x p. p) (tree_at N limits.depth k) (tree_small N limits.depth k)
-line_small N put_w l v w k = two_line N (λ x y. put_s x (num_code w) y) (λ x y p q. (p, q)) (tree_at N limits.depth k) (tree_small N limits.depth k)
-line_small N goto_w l v w k = tt
-line_small N if_w l v w k = one_line_lem (if_s l) (λ x p. p) (tree_at N limits.depth k) (tree_small N limits.depth k)
-line_small N ifimm_w l v w k = tt
-line_small N iftag_w l v w k = tt
-line_small N ifint_w l v w k = tt
-line_small N return_w l v w k = one_line_lem return_s (λ x p. p) (tree_at N limits.depth k) (tree_small N limits.depth k)
-line_small N label_w l v w k = tt
+line_small N Ws.Absent l v w k = tt
+line_small N Ws.Set l v w k = one_line_lem (set_s v) (λ x p. p) (tree_at N limits.depth k) (tree_small N limits.depth k)
+line_small N Ws.Put l v w k = two_line N (λ x y. put_s x (num_code w) y) (λ x y p q. (p, q)) (tree_at N limits.depth k) (tree_small N limits.depth k)
+line_small N Ws.Goto l v w k = tt
+line_small N Ws.If l v w k = one_line_lem (if_s l) (λ x p. p) (tree_at N limits.depth k) (tree_small N limits.depth k)
+line_small N Ws.IfImm l v w k = tt
+line_small N Ws.IfTag l v w k = tt
+line_small N Ws.IfInt l v w k = tt
+line_small N Ws.Return l v w k = one_line_lem return_s (λ x p. p) (tree_at N limits.depth k) (tree_small N limits.depth k)
+line_small N Ws.Label l v w k = tt
 
 pub body_small : (T : Tables) (i : ℕ) → SmallS (get_or (program T).body i bad_s)
 unfolding program body_from stmt_from

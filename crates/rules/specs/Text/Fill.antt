@@ -1,12 +1,14 @@
 -- The glue text: what each line of a right shape writes into the tables, and the limits that it may pass (3). Assumes nothing.
 use Rattle.std.specs.Prelude.{◌+◌, ◌*◌, ◌&&◌, Some, None}
+use Rattle.rules.specs.declared.Key.{Key}
+use Rattle.rules.specs.declared.Key.TheVariants as K
 use Rattle.rules.specs.Text.Words.{Reading}
 use Rattle.rules.specs.Text.Words.{Head}
 use Rattle.rules.specs.Prelude.{ℕ, zero, suc, Bool, true, false, List, ltb, eqb, set, Ok, Err, Count, Option}
 use Rattle.rules.specs.When.{One, when}
 use Rattle.rules.specs.Limits.{limits}
 use Rattle.rules.specs.Text.Words.{byte_at, value_of, next_of, plain_at, number_at, var_at, arity, head_at}
-use Rattle.rules.specs.Text.Shape.{shapes, kind_word, psi_at, boxed_at, offset_at, tag_at, Key, no_key, ret_k, type_k, param_k, local_k, set_k, put_k, goto_k, if_k, ifimm_k, iftag_k, ifint_k, return_k, label_k}
+use Rattle.rules.specs.Text.Shape.{shapes, kind_word, psi_at, boxed_at, offset_at, tag_at}
 use Rattle.rules.specs.Text.Layout.{with_nodes, with_rows, with_vars, with_labels, with_body, with_ret, one_row, one_var, one_label, one_line, Tables, row_width, var_width, label_width, line_width}
 
 -- within the limits, or not; with the counts and the tables after it
@@ -184,20 +186,20 @@ abbrev pub one_more : Count → Tables → Filled → Filled
 one_more c t x = when (ltb c.lines limits.lines) (λ _. x) (λ _. filled false c t)
 
 unfoldable pub fill_line : List ℕ → Key → ℕ → Count → Tables → Filled
-fill_line s no_key at c t = filled false c t
-fill_line s ret_k at c t = fill_ret s at c t
-fill_line s type_k at c t = fill_type s at c t
-fill_line s param_k at c t = fill_param s at c t
-fill_line s local_k at c t = fill_local s at c t
-fill_line s set_k at c t = one_more c t (fill_set s at c t)
-fill_line s put_k at c t = one_more c t (fill_put s at c t)
-fill_line s goto_k at c t = one_more c t (fill_goto s at c t)
-fill_line s if_k at c t = one_more c t (fill_if s at c t)
-fill_line s ifimm_k at c t = one_more c t (fill_ifimm s at c t)
-fill_line s iftag_k at c t = one_more c t (fill_test 6 s at c t)
-fill_line s ifint_k at c t = one_more c t (fill_test 7 s at c t)
-fill_line s return_k at c t = one_more c t (fill_return s at c t)
-fill_line s label_k at c t = one_more c t (fill_label s at c t)
+fill_line s K.Absent at c t = filled false c t
+fill_line s K.Ret at c t = fill_ret s at c t
+fill_line s K.Type at c t = fill_type s at c t
+fill_line s K.Param at c t = fill_param s at c t
+fill_line s K.Local at c t = fill_local s at c t
+fill_line s K.Set at c t = one_more c t (fill_set s at c t)
+fill_line s K.Put at c t = one_more c t (fill_put s at c t)
+fill_line s K.Goto at c t = one_more c t (fill_goto s at c t)
+fill_line s K.If at c t = one_more c t (fill_if s at c t)
+fill_line s K.IfImm at c t = one_more c t (fill_ifimm s at c t)
+fill_line s K.IfTag at c t = one_more c t (fill_test 6 s at c t)
+fill_line s K.IfInt at c t = one_more c t (fill_test 7 s at c t)
+fill_line s K.Return at c t = one_more c t (fill_return s at c t)
+fill_line s K.Label at c t = one_more c t (fill_label s at c t)
 
 -- to compute with what stands here
 unfoldable pub fills : One

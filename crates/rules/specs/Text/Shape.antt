@@ -1,5 +1,7 @@
 -- The glue text: the shape of each line, however much it holds: the byte after it, or the first wrong byte. Nothing is kept. Assumes nothing.
 use Rattle.std.specs.Prelude.{◌+◌, ◌-◌, ◌&&◌, ◌||◌, ◌∷◌}
+use Rattle.rules.specs.declared.Key.{Key}
+use Rattle.rules.specs.declared.Key.TheVariants as K
 use Rattle.rules.specs.Text.Words.{Reading}
 use Rattle.rules.specs.Text.Words.{Next}
 use Rattle.rules.specs.Text.Words.{Head}
@@ -127,9 +129,6 @@ label_shape s (suc more) at = over (entry_shape s at) (more_entries s (label_sha
 
 -- ---- a line by its key
 
-pub data Key : Type 0 where
-  no_key ret_k type_k param_k local_k set_k put_k goto_k if_k ifimm_k iftag_k ifint_k return_k label_k : Key
-
 -- keys have numbers from 1 in this order; those of body lines less 4 are the kinds in the table
 unfoldable pub key_at : List ℕ → ℕ → Reading
 key_at s at =
@@ -149,7 +148,7 @@ key_at s at =
 
 unfoldable pub key_of : ℕ → Key
 key_of k =
-    get_or (no_key ∷ ret_k ∷ type_k ∷ param_k ∷ local_k ∷ set_k ∷ put_k ∷ goto_k ∷ if_k ∷ ifimm_k ∷ iftag_k ∷ ifint_k ∷ return_k ∷ label_k ∷ []) k no_key
+    get_or (K.Absent ∷ K.Ret ∷ K.Type ∷ K.Param ∷ K.Local ∷ K.Set ∷ K.Put ∷ K.Goto ∷ K.If ∷ K.IfImm ∷ K.IfTag ∷ K.IfInt ∷ K.Return ∷ K.Label ∷ []) k K.Absent
 
 -- one `ret=`; any `type=`; any `param=` and `local=`; then body lines. Part 0: nothing read yet; 1, 2, 3: what came last
 unfoldable pub part_of : ℕ → ℕ
@@ -160,20 +159,20 @@ in_order part k = when (eqb k 1) (λ _. eqb part 0) (λ _. ltb 0 part && leb par
 
 -- what stands after the key, where there are `vars` variables
 unfoldable pub line_shape : List ℕ → ℕ → Key → ℕ → Next
-line_shape s vars no_key at = Err at
-line_shape s vars ret_k at = kind_shape s at
-line_shape s vars type_k at = type_shape s at
-line_shape s vars param_k at = kind_shape s at
-line_shape s vars local_k at = local_shape s at
-line_shape s vars set_k at = after (var_at s at) (space s (expr_shape s))
-line_shape s vars put_k at = over (expr_shape s at) (space s (λ n. after (number_at s n) (space s (expr_shape s))))
-line_shape s vars goto_k at = end (plain_at s at)
-line_shape s vars if_k at = after (plain_at s at) (space s (expr_shape s))
-line_shape s vars ifimm_k at = after (plain_at s at) (space s (λ n. end (var_at s n)))
-line_shape s vars iftag_k at = after (plain_at s at) (space s (λ n. after (var_at s n) (space s (λ n. end (number_at s n)))))
-line_shape s vars ifint_k at = after (plain_at s at) (space s (λ n. after (var_at s n) (space s (λ n. end (number_at s n)))))
-line_shape s vars return_k at = expr_shape s at
-line_shape s vars label_k at = label_shape s vars at
+line_shape s vars K.Absent at = Err at
+line_shape s vars K.Ret at = kind_shape s at
+line_shape s vars K.Type at = type_shape s at
+line_shape s vars K.Param at = kind_shape s at
+line_shape s vars K.Local at = local_shape s at
+line_shape s vars K.Set at = after (var_at s at) (space s (expr_shape s))
+line_shape s vars K.Put at = over (expr_shape s at) (space s (λ n. after (number_at s n) (space s (expr_shape s))))
+line_shape s vars K.Goto at = end (plain_at s at)
+line_shape s vars K.If at = after (plain_at s at) (space s (expr_shape s))
+line_shape s vars K.IfImm at = after (plain_at s at) (space s (λ n. end (var_at s n)))
+line_shape s vars K.IfTag at = after (plain_at s at) (space s (λ n. after (var_at s n) (space s (λ n. end (number_at s n)))))
+line_shape s vars K.IfInt at = after (plain_at s at) (space s (λ n. after (var_at s n) (space s (λ n. end (number_at s n)))))
+line_shape s vars K.Return at = expr_shape s at
+line_shape s vars K.Label at = label_shape s vars at
 
 -- to compute with what stands here
 unfoldable pub shapes : One
