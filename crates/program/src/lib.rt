@@ -38,28 +38,28 @@ pub struct Stored {
 pub fn row_count(size: &[u32; 6]) -> usize
     ensures { (R : List ℕ) → result ≡ length (rows_from size.now R) }
 {
-    table::up_to(Limits::ROWS, table::at32(size, 1))
+    table::up_to(Limits::ROWS, table::at(size, 1, 0))
 }
 
 #[tactic(auto, using(crate::proofs::Laws::var_count))]
 pub fn var_count(size: &[u32; 6]) -> usize
     ensures { (D : List ℕ) → result ≡ length (vars_from size.now D) }
 {
-    table::up_to(Limits::VARIABLES, table::at32(size, 2))
+    table::up_to(Limits::VARIABLES, table::at(size, 2, 0))
 }
 
 #[tactic(auto, using(crate::proofs::Laws::label_count))]
 pub fn label_count(size: &[u32; 6]) -> usize
     ensures { (L : List ℕ) → result ≡ length (labels_from size.now L) }
 {
-    table::up_to(Limits::LABELS, table::at32(size, 3))
+    table::up_to(Limits::LABELS, table::at(size, 3, 0))
 }
 
 #[tactic(auto, using(crate::proofs::Laws::line_count))]
 pub fn line_count(size: &[u32; 6]) -> usize
     ensures { (N B : List ℕ) → result ≡ length (body_from size.now N B) }
 {
-    table::up_to(Limits::LINES, table::at32(size, 4))
+    table::up_to(Limits::LINES, table::at(size, 4, 0))
 }
 
 pub fn row_there(size: &[u32; 6], r: usize) -> bool
@@ -75,15 +75,6 @@ pub fn var_there(size: &[u32; 6], v: usize) -> bool
 }
 
 // ---- rows
-
-// Number k of row r.
-fn row_cell(rows: &[u32; 17536], r: usize, k: usize) -> u32
-    requires { k < row_width }
-    ensures { result ≡ cell rows.now row_width r k }
-{
-    let i = table::least(r, Limits::ROWS) * ROW_WIDTH + k;
-    table::at32(rows, i)
-}
 
 #[tactic(auto, unfolding(rules::specs::View::psi_code))]
 fn psi_code(c: u32) -> Psi
@@ -102,7 +93,7 @@ pub fn psi_of(size: &[u32; 6], rows: &[u32; 17536], r: usize) -> Psi
 {
     let n = row_count(size);
     if r < n {
-        psi_code(row_cell(rows, r, 0))
+        psi_code(table::cell(rows, ROW_WIDTH, r, 0, 0))
     } else {
         Psi::Upto(0)
     }
@@ -114,7 +105,7 @@ pub fn prods_of(size: &[u32; 6], rows: &[u32; 17536], r: usize) -> usize
 {
     let n = row_count(size);
     if r < n {
-        table::up_to(Limits::PRODUCTS, row_cell(rows, r, 1))
+        table::up_to(Limits::PRODUCTS, table::cell(rows, ROW_WIDTH, r, 1, 0))
     } else {
         0
     }
@@ -126,18 +117,10 @@ pub fn fields_of(size: &[u32; 6], rows: &[u32; 17536], r: usize, t: usize) -> us
 {
     let n = prods_of(size, rows, r);
     if t < n {
-        table::up_to(Limits::WIDTH, row_cell(rows, r, 2 + t))
+        table::up_to(Limits::WIDTH, table::cell(rows, ROW_WIDTH, r, 2 + t, 0))
     } else {
         0
     }
-}
-
-// Field o of product t of row r, as it stands.
-fn field_cell(rows: &[u32; 17536], r: usize, t: usize, o: usize) -> u32
-    requires { (t < 16) × (o < 16) }
-    ensures { result ≡ cell rows.now row_width r (18 + t * 16 + o) }
-{
-    row_cell(rows, r, 18 + t * 16 + o)
 }
 
 #[tactic(auto, using(crate::proofs::Laws::field_in, crate::proofs::Laws::field_out, crate::proofs::Laws::field_small, table::proofs::Laws::above, table::proofs::Laws::below))]
@@ -146,22 +129,13 @@ pub fn field_of(size: &[u32; 6], rows: &[u32; 17536], r: usize, t: usize, o: usi
 {
     let n = fields_of(size, rows, r, t);
     if o < n {
-        field_cell(rows, r, t, o) as usize
+        table::cell(rows, ROW_WIDTH, r, 18 + t * 16 + o, 0) as usize
     } else {
         0
     }
 }
 
 // ---- variables
-
-// Number k of variable v.
-fn var_cell(vars: &[u32; 96], v: usize, k: usize) -> u32
-    requires { k < var_width }
-    ensures { result ≡ cell vars.now var_width v k }
-{
-    let i = table::least(v, Limits::VARIABLES) * VAR_WIDTH + k;
-    table::at32(vars, i)
-}
 
 #[tactic(auto, unfolding(rules::specs::View::kind_code))]
 fn kind_code(c: u32) -> Kind
@@ -180,7 +154,7 @@ pub fn kind_of(size: &[u32; 6], vars: &[u32; 96], v: usize) -> Kind
 {
     let n = var_count(size);
     if v < n {
-        kind_code(var_cell(vars, v, 0))
+        kind_code(table::cell(vars, VAR_WIDTH, v, 0, 0))
     } else {
         Kind::Cint
     }
@@ -192,7 +166,7 @@ pub fn is_local(size: &[u32; 6], vars: &[u32; 96], v: usize) -> bool
 {
     let n = var_count(size);
     if v < n {
-        var_cell(vars, v, 1) == 2
+        table::cell(vars, VAR_WIDTH, v, 1, 0) == 2
     } else {
         false
     }
@@ -204,7 +178,7 @@ pub fn local_number(size: &[u32; 6], vars: &[u32; 96], v: usize) -> Num
 {
     let n = var_count(size);
     if v < n {
-        number::number(var_cell(vars, v, 2))
+        number::number(table::cell(vars, VAR_WIDTH, v, 2, 0))
     } else {
         Num { n: 0 }
     }
@@ -213,19 +187,10 @@ pub fn local_number(size: &[u32; 6], vars: &[u32; 96], v: usize) -> Num
 pub fn ret_kind(size: &[u32; 6]) -> Kind
     ensures { result ≡ kind_code (get_or size.now 0 0) }
 {
-    kind_code(table::at32(size, 0))
+    kind_code(table::at(size, 0, 0))
 }
 
 // ---- labels
-
-// Number k of label l.
-fn label_cell(labels: &[u64; 6208], l: usize, k: usize) -> u64
-    requires { k < label_width }
-    ensures { result ≡ cell labels.now label_width l k }
-{
-    let i = table::least(l, Limits::LABELS) * LABEL_WIDTH + k;
-    table::at64(labels, i)
-}
 
 // What stands for variable v in label l's place, whether that label is there or not.
 #[tactic(auto, unfolding(rules::specs::View::entry_from))]
@@ -233,9 +198,9 @@ fn entry_at(labels: &[u64; 6208], l: usize, v: usize) -> Entry
     requires { v < 32 }
     ensures { result ≡ entry_from labels.now l v }
 {
-    let b = label_cell(labels, l, v * 3 + 1);
-    let i = label_cell(labels, l, v * 3 + 2);
-    let g = label_cell(labels, l, v * 3 + 3);
+    let b = table::cell(labels, LABEL_WIDTH, l, v * 3 + 1, 0);
+    let i = table::cell(labels, LABEL_WIDTH, l, v * 3 + 2, 0);
+    let g = table::cell(labels, LABEL_WIDTH, l, v * 3 + 3, 0);
     entry::entry_of(b, i, g)
 }
 
@@ -255,7 +220,7 @@ pub fn label_line(size: &[u32; 6], labels: &[u64; 6208], l: usize) -> usize
 {
     let n = label_count(size);
     if l < n {
-        let k = label_cell(labels, l, 0);
+        let k = table::cell(labels, LABEL_WIDTH, l, 0, 0);
         if k == 0 { 0 } else { (k - 1) as usize }
     } else {
         0
@@ -288,10 +253,8 @@ fn side_by_side(t: &[u64], first: usize) -> [u64; 96]
     if t.len() <= first {
         return codes;
     }
-    let mut k = 0;
-    while k < 96 {
-        codes[k] = t[first + k];
-        k += 1;
+    for (k, code) in codes.iter_mut().enumerate() {
+        *code = t[first + k];
     }
     codes
 }
@@ -301,7 +264,7 @@ fn side_by_side(t: &[u64], first: usize) -> [u64; 96]
 pub fn label_codes(labels: &[u64; 6208], l: usize) -> [u64; 96]
     ensures { result ≡ codes_from labels.now l }
 {
-    let line = table::least(l, Limits::LABELS) * LABEL_WIDTH;
+    let line = l.min(Limits::LABELS) * LABEL_WIDTH;
     side_by_side(labels, line + 1)
 }
 
@@ -312,16 +275,8 @@ pub fn label_covers(labels: &[u64; 6208], l: usize, env: Env) -> bool
     ensures { (n : ℕ) → result ≡ covers_env (env_from labels.now l n) env }
 {
     let n = env.count;
-    let mut v = 0;
-    while v < n {
-        if 32 <= v {
-            return true;
-        }
-        let own = entry_at(labels, l, v);
-        let here = env.entries[v];
-        if entry::covers_entry(own, here) {
-            v += 1;
-        } else {
+    for v in 0..n.min(32) {
+        if !entry::covers_entry(entry_at(labels, l, v), env.entries[v]) {
             return false;
         }
     }
@@ -333,13 +288,13 @@ pub fn label_covers(labels: &[u64; 6208], l: usize, env: Env) -> bool
 pub fn operation(nodes: &[u64; 4096], k: usize) -> u32
     ensures { result ≡ get_or nodes.now k 0 / 4294967296 }
 {
-    (table::at64(nodes, k) / 4294967296) as u32
+    (table::at(nodes, k, 0) / 4294967296) as u32
 }
 
 pub fn argument(nodes: &[u64; 4096], k: usize) -> u32
     ensures { result ≡ get_or nodes.now k 0 % 4294967296 }
 {
-    (table::at64(nodes, k) % 4294967296) as u32
+    (table::at(nodes, k, 0) % 4294967296) as u32
 }
 
 // What a node of operation op is.
@@ -387,19 +342,10 @@ pub fn way_of(kind: u32) -> Way
 pub fn operands(op: u32) -> usize
     ensures { result ≡ arity (form_of op) }
 {
-    match op {
-        1 => 0,
-        2 => 0,
-        3 => 1,
-        4 => 1,
-        5 => 1,
-        6 => 2,
-        7 => 2,
-        8 => 2,
-        9 => 2,
-        10 => 2,
-        11 => 2,
-        _ => 0,
+    match form_of(op) {
+        Form::Absent | Form::Lit | Form::Var => 0,
+        Form::Fetch | Form::Int | Form::Val => 1,
+        Form::Step | Form::Calc(_) => 2,
     }
 }
 
@@ -407,7 +353,7 @@ pub fn operands(op: u32) -> usize
 pub fn is_within(depth: usize, k: usize) -> bool
     ensures { result ≡ within depth k }
 {
-    if 0 < depth { k < Limits::NODES } else { false }
+    0 < depth && k < Limits::NODES
 }
 
 // Whether a number or a variable stands at node k, where so much depth is left. A walk answers these in place, without a call that goes deeper.
@@ -421,24 +367,20 @@ pub fn is_leaf(nodes: &[u64; 4096], depth: usize, k: usize) -> bool
     if Limits::NODES <= k {
         return false;
     }
-    match operation(nodes, k) {
-        1 => true,
-        2 => true,
-        _ => false,
-    }
+    // Kept as it is: `leaf_at` tells the two leaves by their numbers, which are read off the node without a call.
+    matches!(operation(nodes, k), 1 | 2)
 }
 
 #[tactic(auto, using(crate::proofs::Places::line_out, table::proofs::Laws::clamped), unfolding(crate::specs::Lines::stored_at))]
 pub fn line_at(body: &[u32; 2560], i: usize) -> Stored
     ensures { result ≡ stored_at body.now i }
 {
-    let k = table::least(i, Limits::LINES) * LINE_WIDTH;
     Stored {
-        kind: table::at32(body, k),
-        label: table::at32(body, k + 1),
-        variable: table::at32(body, k + 2),
-        word: table::at32(body, k + 3),
-        node: table::at32(body, k + 4),
+        kind: table::cell(body, LINE_WIDTH, i, 0, 0),
+        label: table::cell(body, LINE_WIDTH, i, 1, 0),
+        variable: table::cell(body, LINE_WIDTH, i, 2, 0),
+        word: table::cell(body, LINE_WIDTH, i, 3, 0),
+        node: table::cell(body, LINE_WIDTH, i, 4, 0),
     }
 }
 
@@ -480,14 +422,13 @@ pub fn label_there(size: &[u32; 6], labels: &[u64; 6208], body: &[u32; 2560], l:
 pub fn put_node(nodes: &mut [u64; 4096], k: usize, op: u32, a: u32)
     ensures { nodes.new ≡ set nodes.old k (op * 4294967296 + a) }
 {
-    table::put64(nodes, k, (op as u64) * 4294967296 + a as u64);
+    table::put(nodes, k, u64::from(op) * 4294967296 + u64::from(a));
 }
 
 pub fn put_psi(rows: &mut [u32; 17536], r: usize, code: u32)
     ensures { rows.new ≡ set rows.old (r * row_width) code }
 {
-    let i = table::least(r, Limits::ROWS) * ROW_WIDTH;
-    table::put32(rows, i, code);
+    table::put_cell(rows, ROW_WIDTH, r, 0, code);
 }
 
 // The product k and the field o are bytes, so that their counts fit the table whatever they are.
@@ -495,49 +436,45 @@ pub fn put_psi(rows: &mut [u32; 17536], r: usize, code: u32)
 pub fn put_field(rows: &mut [u32; 17536], r: usize, k: u8, o: u8, q: u32)
     ensures { rows.new ≡ put_field rows.old r k o q }
 {
-    let i = table::least(r, Limits::ROWS) * ROW_WIDTH;
     let t = k as usize;
-    table::put32(rows, i + 18 + t * 16 + o as usize, q);
-    table::put32(rows, i + 2 + t, o as u32 + 1);
-    table::put32(rows, i + 1, k as u32 + 1);
+    table::put_cell(rows, ROW_WIDTH, r, 18 + t * 16 + o as usize, q);
+    table::put_cell(rows, ROW_WIDTH, r, 2 + t, u32::from(o) + 1);
+    table::put_cell(rows, ROW_WIDTH, r, 1, u32::from(k) + 1);
 }
 
 pub fn put_var(vars: &mut [u32; 96], v: usize, kind: u32, how: u32, word: u32)
     ensures { vars.new ≡ put_var vars.old v kind how word }
 {
-    let i = table::least(v, Limits::VARIABLES) * VAR_WIDTH;
-    table::put32(vars, i, kind);
-    table::put32(vars, i + 1, how);
-    table::put32(vars, i + 2, word);
+    table::put_cell(vars, VAR_WIDTH, v, 0, kind);
+    table::put_cell(vars, VAR_WIDTH, v, 1, how);
+    table::put_cell(vars, VAR_WIDTH, v, 2, word);
 }
 
 pub fn put_label_line(labels: &mut [u64; 6208], l: usize, line: u64)
     ensures { labels.new ≡ set labels.old (l * label_width) line }
 {
-    let i = table::least(l, Limits::LABELS) * LABEL_WIDTH;
-    table::put64(labels, i, line);
+    table::put_cell(labels, LABEL_WIDTH, l, 0, line);
 }
 
 // Past the label's own variables this writes as the definition does, further on in the table.
 pub fn put_entry(labels: &mut [u64; 6208], l: usize, v: usize, b: u64, i: u64, g: u64)
     ensures { labels.new ≡ put_entry labels.old l v b i g }
 {
-    let k = table::least(l, Limits::LABELS) * LABEL_WIDTH + table::least(v, 6208) * 3;
-    table::put64(labels, k + 1, b);
-    table::put64(labels, k + 2, i);
-    table::put64(labels, k + 3, g);
+    let k = v.min(6208) * 3;
+    table::put_cell(labels, LABEL_WIDTH, l, k + 1, b);
+    table::put_cell(labels, LABEL_WIDTH, l, k + 2, i);
+    table::put_cell(labels, LABEL_WIDTH, l, k + 3, g);
 }
 
 #[tactic(auto, using(crate::proofs::Places::body_past, table::proofs::Laws::clamped), unfolding(rules::specs::Text::Fill::put_line))]
 pub fn put_line(body: &mut [u32; 2560], i: usize, kind: u32, l: u32, v: u32, w: u32, k: u32)
     ensures { body.new ≡ put_line body.old i kind l v w k }
 {
-    let p = table::least(i, Limits::LINES) * LINE_WIDTH;
-    table::put32(body, p, kind);
-    table::put32(body, p + 1, l);
-    table::put32(body, p + 2, v);
-    table::put32(body, p + 3, w);
-    table::put32(body, p + 4, k);
+    table::put_cell(body, LINE_WIDTH, i, 0, kind);
+    table::put_cell(body, LINE_WIDTH, i, 1, l);
+    table::put_cell(body, LINE_WIDTH, i, 2, v);
+    table::put_cell(body, LINE_WIDTH, i, 3, w);
+    table::put_cell(body, LINE_WIDTH, i, 4, k);
 }
 
 // Kind code of `ret`, rows, variables, labels, body lines, nodes.
@@ -557,42 +494,6 @@ pub fn put_sizes(
 
 // ---- clearing
 
-fn clear_size(size: &mut [u32; 6])
-    ensures { size.new ≡ replicate 6 0 }
-{
-    *size = [0; 6];
-}
-
-fn clear_nodes(nodes: &mut [u64; 4096])
-    ensures { nodes.new ≡ replicate 4096 0 }
-{
-    *nodes = [0; 4096];
-}
-
-fn clear_rows(rows: &mut [u32; 17536])
-    ensures { rows.new ≡ replicate 17536 0 }
-{
-    *rows = [0; 17536];
-}
-
-fn clear_vars(vars: &mut [u32; 96])
-    ensures { vars.new ≡ replicate 96 0 }
-{
-    *vars = [0; 96];
-}
-
-fn clear_labels(labels: &mut [u64; 6208])
-    ensures { labels.new ≡ replicate 6208 0 }
-{
-    *labels = [0; 6208];
-}
-
-fn clear_body(body: &mut [u32; 2560])
-    ensures { body.new ≡ replicate 2560 0 }
-{
-    *body = [0; 2560];
-}
-
 // All tables of a program.
 #[tactic(auto, using(crate::proofs::Laws::zeros_are))]
 pub fn clear(
@@ -605,10 +506,10 @@ pub fn clear(
 )
     ensures { tables_of size.new nodes.new rows.new vars.new labels.new body.new ≡ zeros }
 {
-    clear_size(size);
-    clear_nodes(nodes);
-    clear_rows(rows);
-    clear_vars(vars);
-    clear_labels(labels);
-    clear_body(body);
+    *size = [0; 6];
+    *nodes = [0; 4096];
+    *rows = [0; 17536];
+    *vars = [0; 96];
+    *labels = [0; 6208];
+    *body = [0; 2560];
 }

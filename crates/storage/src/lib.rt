@@ -19,23 +19,14 @@ const BLOCK_WIDTH: usize = 17;
 pub fn budget(size: &[u32; 2]) -> u32
     ensures { result ≡ get_or size.now 0 0 }
 {
-    table::at32(size, 0)
+    table::at(size, 0, 0)
 }
 
 #[tactic(auto, using(crate::proofs::Laws::block_count))]
 pub fn block_count(size: &[u32; 2]) -> usize
     ensures { (H C : List ℕ) → result ≡ length (store_of size.now H C) }
 {
-    table::up_to(Limits::BLOCKS, table::at32(size, 1))
-}
-
-// Number k of block b's head.
-fn head_cell(heads: &[u32; 768], b: usize, k: usize) -> u32
-    requires { k < head_width }
-    ensures { result ≡ cell heads.now head_width b k }
-{
-    let i = table::least(b, Limits::BLOCKS) * HEAD_WIDTH + k;
-    table::at32(heads, i)
+    table::up_to(Limits::BLOCKS, table::at(size, 1, 0))
 }
 
 #[tactic(auto, using(crate::proofs::Laws::row_in_lem, crate::proofs::Laws::row_out, table::proofs::Laws::above, table::proofs::Laws::below))]
@@ -44,8 +35,7 @@ pub fn block_row(size: &[u32; 2], heads: &[u32; 768], b: usize) -> usize
 {
     let n = block_count(size);
     if b < n {
-        let k = head_cell(heads, b, 0) as usize;
-        if k == 0 { 0 } else { k - 1 }
+        (table::cell(heads, HEAD_WIDTH, b, 0, 0) as usize).saturating_sub(1)
     } else {
         0
     }
@@ -56,7 +46,10 @@ pub fn block_tag(size: &[u32; 2], heads: &[u32; 768], b: usize) -> u32
     ensures { (C : List ℕ) → result ≡ tag_in (store_of size.now heads.now C) b }
 {
     let n = block_count(size);
-    if b < n { head_cell(heads, b, 1) } else { 0 }
+    if n <= b {
+        return 0;
+    }
+    table::cell(heads, HEAD_WIDTH, b, 1, 0)
 }
 
 #[tactic(auto, using(crate::proofs::Laws::cells_in_lem, crate::proofs::Laws::cells_out, table::proofs::Laws::above, table::proofs::Laws::below))]
@@ -65,7 +58,7 @@ pub fn cell_count(size: &[u32; 2], heads: &[u32; 768], b: usize) -> usize
 {
     let n = block_count(size);
     if b < n {
-        table::up_to(BLOCK_WIDTH, head_cell(heads, b, 2))
+        table::up_to(BLOCK_WIDTH, table::cell(heads, HEAD_WIDTH, b, 2, 0))
     } else {
         0
     }
@@ -74,24 +67,10 @@ pub fn cell_count(size: &[u32; 2], heads: &[u32; 768], b: usize) -> usize
 pub fn is_inside(size: &[u32; 2], heads: &[u32; 768], b: usize, o: usize) -> bool
     ensures { (C : List ℕ) → result ≡ inside (store_of size.now heads.now C) b o }
 {
-    let n = block_count(size);
-    if b < n {
-        o < cell_count(size, heads, b)
-    } else {
-        false
-    }
+    b < block_count(size) && o < cell_count(size, heads, b)
 }
 
 // ---- data
-
-// Cell o of block b, as it stands.
-fn block_cell(cells: &[u64; 4352], b: usize, o: usize) -> u64
-    requires { o < block_width }
-    ensures { result ≡ cell cells.now block_width b o }
-{
-    let i = table::least(b, Limits::BLOCKS) * BLOCK_WIDTH + o;
-    table::at64(cells, i)
-}
 
 #[tactic(auto, using(crate::proofs::Laws::cell_in, crate::proofs::Laws::cell_out, crate::proofs::Laws::cells_small, table::proofs::Laws::above, table::proofs::Laws::below))]
 pub fn cell_at(
@@ -105,7 +84,7 @@ pub fn cell_at(
 {
     let n = cell_count(size, heads, b);
     if o < n {
-        entry::datum_of(block_cell(cells, b, o))
+        entry::datum_of(table::cell(cells, BLOCK_WIDTH, b, o, 0))
     } else {
         None
     }
@@ -117,7 +96,7 @@ pub fn val_at(n: usize, vals: &[u64; 32], v: usize) -> Given
     ensures { result ≡ ev_var (vals_of n vals.now) v }
 {
     if v < n {
-        entry::datum_of(table::at64(vals, v))
+        entry::datum_of(table::at(vals, v, 0))
     } else {
         None
     }
@@ -130,24 +109,22 @@ pub fn val_at(n: usize, vals: &[u64; 32], v: usize) -> Given
 pub fn put_head(heads: &mut [u32; 768], b: usize, row: u32, tag: u32, n: u32)
     ensures { heads.new ≡ head_put heads.old b row tag n }
 {
-    let i = table::least(b, Limits::BLOCKS) * HEAD_WIDTH;
-    table::put32(heads, i, row);
-    table::put32(heads, i + 1, tag);
-    table::put32(heads, i + 2, n);
+    table::put_cell(heads, HEAD_WIDTH, b, 0, row);
+    table::put_cell(heads, HEAD_WIDTH, b, 1, tag);
+    table::put_cell(heads, HEAD_WIDTH, b, 2, n);
 }
 
 // Past the block's own cells this writes as the definition does, further on in the table.
 pub fn put_cell(cells: &mut [u64; 4352], b: usize, o: usize, code: u64)
     ensures { cells.new ≡ set cells.old (b * block_width + o) code }
 {
-    let i = table::least(b, Limits::BLOCKS) * BLOCK_WIDTH + table::least(o, 4352);
-    table::put64(cells, i, code);
+    table::put_cell(cells, BLOCK_WIDTH, b, o, code);
 }
 
 pub fn put_val(vals: &mut [u64; 32], v: usize, code: u64)
     ensures { vals.new ≡ set vals.old v code }
 {
-    table::put64(vals, v, code);
+    table::put(vals, v, code);
 }
 
 pub fn put_sizes(size: &mut [u32; 2], budget: u32, blocks: u32)
@@ -157,6 +134,8 @@ pub fn put_sizes(size: &mut [u32; 2], budget: u32, blocks: u32)
 }
 
 // ---- clearing
+
+// Kept as it is: one function over the length `N` would write `[0; N]`, of which the check makes no proof where `N` is a parameter.
 
 pub fn clear_size(size: &mut [u32; 2])
     ensures { size.new ≡ replicate 2 0 }

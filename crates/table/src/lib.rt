@@ -1,23 +1,17 @@
-// Tables of numbers, whatever they hold: one number read or written, and a count. Past a table is 0, and a place past it writes nothing.
-// The two widths name the place apart, `i` and `k`, so that a must-fail edit can name a line of either.
+// Tables of numbers, whatever they hold: one number read or written, and a count. Past a table is a number that the caller names, and a place past it writes nothing.
 #![tactic(auto)]
 
-ghost use Rattle.std.specs.Prelude.{◌≡◌, min, get_or, set};
+ghost use Rattle.std.specs.Prelude.{◌≡◌, ℕ, ◌+◌, ◌*◌, ◌≤◌, ◌^◌, get_or, set, MatchOption};
 ghost use Rattle.rules.specs.View.{up_to};
 
-pub fn at32(t: &[u32], i: usize) -> u32
-    ensures { result ≡ get_or t.now i 0 }
+// What stands at place i, or `past` where the table has no such place.
+pub fn at<T: Copy>(t: &[T], i: usize, past: T) -> T
+    ensures { result ≡ get_or t.now i past }
 {
-    if i < t.len() { t[i] } else { 0 }
+    t.get(i).copied().unwrap_or(past)
 }
 
-pub fn at64(t: &[u64], k: usize) -> u64
-    ensures { result ≡ get_or t.now k 0 }
-{
-    if k < t.len() { t[k] } else { 0 }
-}
-
-pub fn put32(t: &mut [u32], i: usize, x: u32)
+pub fn put<T: Copy>(t: &mut [T], i: usize, x: T)
     ensures { t.new ≡ set t.old i x }
 {
     if i < t.len() {
@@ -25,19 +19,29 @@ pub fn put32(t: &mut [u32], i: usize, x: u32)
     }
 }
 
-pub fn put64(t: &mut [u64], k: usize, x: u64)
-    ensures { t.new ≡ set t.old k x }
+// Where number k of thing i stands, each thing having `width` numbers; none where a usize does not hold the place, which lies past every table then.
+fn place(width: usize, i: usize, k: usize) -> Option<usize>
+    ensures { MatchOption result (2 ^ 64 ≤ i * width + k) (λ p. p ≡ i * width + k) }
 {
-    if k < t.len() {
-        t[k] = x;
+    i.checked_mul(width)?.checked_add(k)
+}
+
+// Number k of thing i.
+pub fn cell<T: Copy>(t: &[T], width: usize, i: usize, k: usize, past: T) -> T
+    ensures { result ≡ get_or t.now (i * width + k) past }
+{
+    match place(width, i, k) {
+        Some(p) => at(t, p, past),
+        None => past,
     }
 }
 
-// For a place that can be computed: a thing past the last of a table is as good as the one after the last, since both lie past it.
-pub fn least(a: usize, b: usize) -> usize
-    ensures { result ≡ min a b }
+pub fn put_cell<T: Copy>(t: &mut [T], width: usize, i: usize, k: usize, x: T)
+    ensures { t.new ≡ set t.old (i * width + k) x }
 {
-    if a < b { a } else { b }
+    if let Some(p) = place(width, i, k) {
+        put(t, p, x);
+    }
 }
 
 // A count over its limit is none.
