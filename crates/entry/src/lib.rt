@@ -18,66 +18,31 @@ use rules::{Boxed, Datum, Entry, Env, Given, Num, Offset, Tag};
 fn covers_boxed(label: Boxed, here: Boxed) -> bool
     ensures { result ≡ covers_boxed label here }
 {
-    match label {
-        Boxed::Either => true,
-        Boxed::Block => match here {
-            Boxed::Either => false,
-            Boxed::Block => true,
-            Boxed::Imm => false,
-        },
-        Boxed::Imm => match here {
-            Boxed::Either => false,
-            Boxed::Block => false,
-            Boxed::Imm => true,
-        },
-    }
+    label == Boxed::Either || label == here
 }
 
+// Kept as it is: the same of an offset and of a tag. They are two types, so that neither is taken for the other, and one function over both would be told what `any` is.
 #[tactic(auto, unfolding(rules::specs::Environments::covers_offset))]
 fn covers_offset(label: Offset, here: Offset) -> bool
     ensures { result ≡ covers_offset label here }
 {
-    match label {
-        Offset::Unknown => true,
-        Offset::Known(n) => match here {
-            Offset::Unknown => false,
-            Offset::Known(m) => number::same(n, m),
-        },
-    }
+    label == Offset::Unknown || label == here
 }
 
 #[tactic(auto, unfolding(rules::specs::Environments::covers_tag))]
 fn covers_tag(label: Tag, here: Tag) -> bool
     ensures { result ≡ covers_tag label here }
 {
-    match label {
-        Tag::Unknown => true,
-        Tag::Known(n) => match here {
-            Tag::Unknown => false,
-            Tag::Known(m) => number::same(n, m),
-        },
-    }
+    label == Tag::Unknown || label == here
 }
 
 #[tactic(auto, unfolding(rules::specs::Environments::covers_entry))]
 pub fn covers_entry(label: Entry, here: Entry) -> bool
     ensures { result ≡ covers_entry label here }
 {
-    let label_boxed = label.boxed;
-    let here_boxed = here.boxed;
-    let label_offset = label.offset;
-    let here_offset = here.offset;
-    let label_tag = label.tag;
-    let here_tag = here.tag;
-    if covers_boxed(label_boxed, here_boxed) {
-        if covers_offset(label_offset, here_offset) {
-            covers_tag(label_tag, here_tag)
-        } else {
-            false
-        }
-    } else {
-        false
-    }
+    covers_boxed(label.boxed, here.boxed)
+        && covers_offset(label.offset, here.offset)
+        && covers_tag(label.tag, here.tag)
 }
 
 // ---- environments
@@ -85,15 +50,11 @@ pub fn covers_entry(label: Entry, here: Entry) -> bool
 pub fn entry_at(env: Env, v: usize) -> Entry
     ensures { result ≡ get_or env.entries v no_entry }
 {
-    if v < 32 {
-        env.entries[v]
-    } else {
-        Entry {
-            boxed: Boxed::Either,
-            offset: Offset::Unknown,
-            tag: Tag::Unknown,
-        }
-    }
+    env.entries.get(v).copied().unwrap_or(Entry {
+        boxed: Boxed::Either,
+        offset: Offset::Unknown,
+        tag: Tag::Unknown,
+    })
 }
 
 #[tactic(auto, unfolding(rules::specs::Environments::with_entry))]
@@ -112,24 +73,15 @@ pub fn with_entry(env: Env, v: usize, e: Entry) -> Env
 pub fn with_boxed(e: Entry, b: Boxed) -> Entry
     ensures { result ≡ with_boxed e b }
 {
-    let offset = e.offset;
-    let tag = e.tag;
-    Entry {
-        boxed: b,
-        offset: offset,
-        tag: tag,
-    }
+    Entry { boxed: b, ..e }
 }
 
 pub fn with_tag(e: Entry, n: Num) -> Entry
     ensures { result ≡ with_tag e n }
 {
-    let boxed = e.boxed;
-    let offset = e.offset;
     Entry {
-        boxed: boxed,
-        offset: offset,
         tag: Tag::Known(n),
+        ..e
     }
 }
 
@@ -138,9 +90,9 @@ fn at_zero(boxed: Boxed, tag: Tag) -> Entry
     ensures { result ≡ entry boxed zero_i tag }
 {
     Entry {
-        boxed: boxed,
+        boxed,
         offset: Offset::Known(Num { n: 0 }),
-        tag: tag,
+        tag,
     }
 }
 
@@ -161,10 +113,7 @@ pub fn imm_entry(t: Tag) -> Entry
 pub fn zero_offset(i: Offset) -> bool
     ensures { result ≡ is_zero i }
 {
-    match i {
-        Offset::Unknown => false,
-        Offset::Known(n) => number::is_zero(n),
-    }
+    i == Offset::Known(Num { n: 0 })
 }
 
 // ---- entries as numbers of a table
@@ -173,12 +122,10 @@ pub fn zero_offset(i: Offset) -> bool
 fn boxed_from(c: u64) -> Boxed
     ensures { result ≡ boxed_code c }
 {
-    if c == 1 {
-        Boxed::Block
-    } else if c == 2 {
-        Boxed::Imm
-    } else {
-        Boxed::Either
+    match c {
+        1 => Boxed::Block,
+        2 => Boxed::Imm,
+        _ => Boxed::Either,
     }
 }
 
@@ -186,10 +133,9 @@ fn boxed_from(c: u64) -> Boxed
 fn offset_from(c: u64) -> Offset
     ensures { result ≡ offset_code c }
 {
-    if c == 0 {
-        Offset::Unknown
-    } else {
-        Offset::Known(number::number_of(c - 1))
+    match c {
+        0 => Offset::Unknown,
+        _ => Offset::Known(number::number_of(c - 1)),
     }
 }
 
@@ -197,27 +143,23 @@ fn offset_from(c: u64) -> Offset
 fn tag_from(c: u64) -> Tag
     ensures { result ≡ tag_code c }
 {
-    if c == 0 {
-        Tag::Unknown
-    } else {
-        Tag::Known(number::number_of(c - 1))
+    match c {
+        0 => Tag::Unknown,
+        _ => Tag::Known(number::number_of(c - 1)),
     }
 }
 
 pub fn entry_of(b: u64, i: u64, t: u64) -> Entry
     ensures { result ≡ entry (boxed_code b) (offset_code i) (tag_code t) }
 {
-    let boxed = boxed_from(b);
-    let offset = offset_from(i);
-    let tag = tag_from(t);
     Entry {
-        boxed: boxed,
-        offset: offset,
-        tag: tag,
+        boxed: boxed_from(b),
+        offset: offset_from(i),
+        tag: tag_from(t),
     }
 }
 
-#[derive(Drop)]
+#[derive(Clone, Copy)]
 pub struct Codes {
     pub boxed: u64,
     pub offset: u64,
@@ -239,7 +181,7 @@ fn offset_to(i: Offset) -> u64
 {
     match i {
         Offset::Unknown => 0,
-        Offset::Known(n) => number::word(n) as u64 + 1,
+        Offset::Known(n) => u64::from(number::word(n)) + 1,
     }
 }
 
@@ -248,7 +190,7 @@ fn tag_to(t: Tag) -> u64
 {
     match t {
         Tag::Unknown => 0,
-        Tag::Known(n) => number::word(n) as u64 + 1,
+        Tag::Known(n) => u64::from(number::word(n)) + 1,
     }
 }
 
@@ -256,16 +198,10 @@ fn tag_to(t: Tag) -> u64
 pub fn codes_of(e: Entry) -> Codes
     ensures { result ≡ codes_of e }
 {
-    let b = e.boxed;
-    let i = e.offset;
-    let t = e.tag;
-    let boxed = boxed_to(b);
-    let offset = offset_to(i);
-    let tag = tag_to(t);
     Codes {
-        boxed: boxed,
-        offset: offset,
-        tag: tag,
+        boxed: boxed_to(e.boxed),
+        offset: offset_to(e.offset),
+        tag: tag_to(e.tag),
     }
 }
 
@@ -275,16 +211,12 @@ pub fn codes_of(e: Entry) -> Codes
 pub fn datum_of(c: u64) -> Given
     ensures { result ≡ datum_code c }
 {
-    let high = c / 4294967296;
     let low = c % 4294967296;
-    if high == 0 {
-        None
-    } else if high == 1 {
-        Some(Datum::Int(number::number_of(low)))
-    } else if high == 2 {
-        Some(Datum::Imm(number::number_of(low)))
-    } else {
-        Some(Datum::Place((high - 3) as usize, low as usize))
+    match c / 4294967296 {
+        0 => None,
+        1 => Some(Datum::Int(number::number_of(low))),
+        2 => Some(Datum::Imm(number::number_of(low))),
+        high => Some(Datum::Place((high - 3) as usize, low as usize)),
     }
 }
 
@@ -292,12 +224,8 @@ pub fn datum_of(c: u64) -> Given
 fn place_code(b: usize, o: usize) -> u64
     ensures { result ≡ need 0 (writable (Datum.Place b o)) (code_of (Datum.Place b o)) }
 {
-    if b < 4294967293 {
-        if o < 4294967296 {
-            (b as u64 + 3) * 4294967296 + o as u64
-        } else {
-            0
-        }
+    if b < 4294967293 && o < 4294967296 {
+        (b as u64 + 3) * 4294967296 + o as u64
     } else {
         0
     }
@@ -309,8 +237,8 @@ pub fn code_of(d: Datum) -> u64
     ensures { result ≡ need 0 (writable d) (code_of d) }
 {
     match d {
-        Datum::Int(n) => 4294967296 + number::word(n) as u64,
-        Datum::Imm(n) => 2 * 4294967296 + number::word(n) as u64,
+        Datum::Int(n) => 4294967296 + u64::from(number::word(n)),
+        Datum::Imm(n) => 2 * 4294967296 + u64::from(number::word(n)),
         Datum::Place(b, o) => place_code(b, o),
     }
 }

@@ -10,7 +10,7 @@ use rules::{Num, Op, Psi};
 // ---- bits
 
 // k, or -1 - k: what a number is without its bits.
-#[derive(Drop)]
+#[derive(Clone, Copy)]
 pub enum Sign {
     Plus(u32),
     Minus(u32),
@@ -22,9 +22,9 @@ pub fn sign_of(a: Num) -> Sign
 {
     let z = a.n;
     if z < 0 {
-        Sign::Minus((!z) as u32)
+        Sign::Minus((!z).cast_unsigned())
     } else {
-        Sign::Plus(z as u32)
+        Sign::Plus(z.cast_unsigned())
     }
 }
 
@@ -33,10 +33,7 @@ pub fn sign_of(a: Num) -> Sign
 pub fn word(a: Num) -> u32
     ensures { result ≡ word_of a }
 {
-    match sign_of(a) {
-        Sign::Plus(k) => k,
-        Sign::Minus(k) => 4294967295 - k,
-    }
+    a.n.cast_unsigned()
 }
 
 // The number whose 32 bits are w.
@@ -44,12 +41,7 @@ pub fn word(a: Num) -> u32
 pub fn number(w: u32) -> Num
     ensures { result ≡ num_code w }
 {
-    if w < 2147483648 {
-        Num { n: w as i32 }
-    } else {
-        let m = 4294967295 - w;
-        Num { n: !(m as i32) }
-    }
+    Num { n: w.cast_signed() }
 }
 
 // The number whose 32 bits are the low ones of c.
@@ -67,11 +59,7 @@ pub fn number_of(c: u64) -> Num
 fn low(s: i64) -> u64
     ensures { result ≡ low32 s }
 {
-    if s < 0 {
-        4294967295 - (!s) as u64 % 4294967296
-    } else {
-        s as u64 % 4294967296
-    }
+    s.cast_unsigned() % 4294967296
 }
 
 #[tactic(auto, unfolding(rules::specs::Numbers::wrap32))]
@@ -84,15 +72,13 @@ fn wrap(s: i64) -> Num
 fn one_if(b: bool) -> Num
     ensures { result ≡ one_if b }
 {
-    if b { Num { n: 1 } } else { Num { n: 0 } }
+    Num { n: i32::from(b) }
 }
 
 pub fn same(a: Num, b: Num) -> bool
     ensures { result ≡ same_num a b }
 {
-    let x = a.n;
-    let y = b.n;
-    x == y
+    a == b
 }
 
 pub fn is_zero(a: Num) -> bool
@@ -124,15 +110,8 @@ pub fn arith(o: Op, a: Num, b: Num) -> Num
 fn ahead(o: usize, k: usize, n: usize) -> Option<usize>
     ensures { result ≡ index_in (pos (o + k)) n }
 {
-    if o < n {
-        if k < n - o {
-            Some(o + k)
-        } else {
-            None
-        }
-    } else {
-        None
-    }
+    let place = o.checked_add(k)?;
+    if place < n { Some(place) } else { None }
 }
 
 // o - 1 - k among n.
@@ -140,11 +119,7 @@ fn ahead(o: usize, k: usize, n: usize) -> Option<usize>
 fn back(o: usize, k: usize, n: usize) -> Option<usize>
     ensures { result ≡ index_in (pos o +ℤ negsuc k) n }
 {
-    if k < o {
-        ahead(o - 1 - k, 0, n)
-    } else {
-        None
-    }
+    if k < o { ahead(o - 1 - k, 0, n) } else { None }
 }
 
 // o + m among n, over whole numbers.
@@ -186,9 +161,6 @@ pub fn suits(p: Psi, n: Num) -> bool
 {
     match p {
         Psi::Inf => true,
-        Psi::Upto(m) => match index_in(n, m as usize) {
-            Some(_) => true,
-            None => false,
-        },
+        Psi::Upto(m) => index_in(n, m as usize).is_some(),
     }
 }

@@ -7,32 +7,32 @@ ghost use Rattle.rules.specs.Limits.{limits};
 ghost use Rattle.rules.specs.Program.{loosest};
 
 // A signed 32-bit number.
-#[derive(Clone, Copy)]
+#[derive(Clone, Copy, PartialEq, Eq)]
 pub struct Num {
     pub n: i32,
 }
 
 // `any`, `box`, `imm`.
-#[derive(Clone, Copy)]
+#[derive(Clone, Copy, PartialEq, Eq)]
 pub enum Boxed {
     Either,
     Block,
     Imm,
 }
 
-#[derive(Clone, Copy)]
+#[derive(Clone, Copy, PartialEq, Eq)]
 pub enum Offset {
     Unknown,
     Known(Num),
 }
 
-#[derive(Clone, Copy)]
+#[derive(Clone, Copy, PartialEq, Eq)]
 pub enum Tag {
     Unknown,
     Known(Num),
 }
 
-#[derive(Clone, Copy)]
+#[derive(Clone, Copy, PartialEq, Eq)]
 pub struct Entry {
     pub boxed: Boxed,
     pub offset: Offset,
@@ -139,7 +139,7 @@ impl Limits {
     }
 }
 
-#[derive(Clone, Copy)]
+#[derive(Clone, Copy, PartialEq, Eq)]
 pub enum Kind {
     Cint,
     Value(usize),
@@ -152,7 +152,7 @@ pub enum Psi {
     Upto(u32),
 }
 
-#[derive(Clone, Copy)]
+#[derive(Clone, Copy, PartialEq, Eq)]
 pub enum Op {
     Add,
     Sub,
@@ -162,7 +162,7 @@ pub enum Op {
 }
 
 // What a node of an expression is, by the operation in its table.
-#[derive(Clone, Copy)]
+#[derive(Clone, Copy, PartialEq, Eq)]
 pub enum Form {
     Absent,
     Lit,
@@ -175,7 +175,7 @@ pub enum Form {
 }
 
 // What a body line is, by the kind in its table.
-#[derive(Clone, Copy)]
+#[derive(Clone, Copy, PartialEq, Eq)]
 pub enum Way {
     Absent,
     Set,
@@ -190,7 +190,7 @@ pub enum Way {
 }
 
 // What a line of a glue text begins with.
-#[derive(Clone, Copy)]
+#[derive(Clone, Copy, PartialEq, Eq)]
 pub enum Key {
     Absent,
     Ret,
@@ -208,7 +208,7 @@ pub enum Key {
     Label,
 }
 
-#[derive(Clone, Copy)]
+#[derive(Clone, Copy, PartialEq, Eq)]
 pub enum Datum {
     Int(Num),
     Imm(Num),
