@@ -1,4 +1,4 @@
-// What the programs print, written into a lent table of bytes: the text from its start on, and 0 after it.
+// What the programs print, written on a page that goes into a lent table of bytes: the text from its start on, and 0 after it.
 #![tactic(auto)]
 
 ghost use Rattle.std.specs.Prelude.{◌≡◌, [], ◌∷◌, ◌+◌, ◌≤◌, length};
@@ -8,130 +8,148 @@ ghost use Rattle.prints.specs.Written.{printed, Puts};
 use number::Sign;
 use rules::{Answer, Datum, Given, Num, State};
 
-// ---- words
+// ---- a page
 
-// Each private function puts its text at `at` and returns the place after it. Its caller has shown that the text fits.
-
-#[tactic(auto, using(crate::proofs::Laws::one))]
-fn put_byte(out: &mut [u8; 128], at: usize, b: u8) -> usize
-    requires { at + 1 ≤ 128 }
-    ensures { Puts out.old at (b ∷ []) out.new result }
-{
-    out[at] = b;
-    at + 1
+// Bytes, and the place at which the next text goes. Each private method puts its text there; its caller has shown that the text fits.
+#[derive(Clone, Copy)]
+struct Page {
+    bytes: [u8; 128],
+    at: usize,
 }
 
-#[tactic(auto, using(crate::proofs::Laws::put_one, crate::proofs::Laws::put_none))]
-fn put_word(out: &mut [u8; 128], at: usize, w: &[u8]) -> usize
-    requires { at + length w.now ≤ 128 }
-    ensures { Puts out.old at w.now out.new result }
-{
-    let mut k = 0;
-    while k < w.len() {
-        out[at + k] = w[k];
-        k += 1;
+impl Page {
+    #[tactic(auto, using(crate::proofs::Laws::one))]
+    fn byte(&mut self, b: u8)
+        requires { self.old.at + 1 ≤ 128 }
+        ensures { Puts self.old.bytes self.old.at (b ∷ []) self.new.bytes self.new.at }
+    {
+        self.bytes[self.at] = b;
+        self.at += 1;
     }
-    at + k
-}
 
-// ---- numbers
-
-// At most so many digits, the first ones before the last.
-fn put_digits(out: &mut [u8; 128], at: usize, most: usize, n: u64) -> usize
-    requires { at + length (digits_of most n) ≤ 128 }
-    ensures { Puts out.old at (digits_of most n) out.new result }
-{
-    if most == 0 {
-        return at;
+    #[tactic(auto, using(crate::proofs::Laws::put_one, crate::proofs::Laws::put_none))]
+    fn word(&mut self, w: &[u8])
+        requires { self.old.at + length w.now ≤ 128 }
+        ensures { Puts self.old.bytes self.old.at w.now self.new.bytes self.new.at }
+    {
+        let at = self.at;
+        for (k, b) in w.iter().enumerate() {
+            self.bytes[at + k] = *b;
+        }
+        self.at = at + w.len();
     }
-    if n < 10 {
-        return put_byte(out, at, (48 + n) as u8);
+
+    // ---- numbers
+
+    // At most so many digits, the first ones before the last.
+    fn digits(&mut self, most: usize, n: u64)
+        requires { self.old.at + length (digits_of most n) ≤ 128 }
+        ensures { Puts self.old.bytes self.old.at (digits_of most n) self.new.bytes self.new.at }
+    {
+        if most == 0 {
+            return;
+        }
+        if n < 10 {
+            self.byte((48 + n) as u8);
+            return;
+        }
+        self.digits(most - 1, n / 10);
+        self.byte((48 + n % 10) as u8);
     }
-    let next = put_digits(out, at, most - 1, n / 10);
-    put_byte(out, next, (48 + n % 10) as u8)
-}
 
-#[tactic(auto, unfolding(rules::specs::Run::decimal))]
-fn put_decimal(out: &mut [u8; 128], at: usize, n: u64) -> usize
-    requires { at + length (decimal n) ≤ 128 }
-    ensures { Puts out.old at (decimal n) out.new result }
-{
-    put_digits(out, at, 20, n)
-}
+    #[tactic(auto, unfolding(rules::specs::Run::decimal))]
+    fn decimal(&mut self, n: u64)
+        requires { self.old.at + length (decimal n) ≤ 128 }
+        ensures { Puts self.old.bytes self.old.at (decimal n) self.new.bytes self.new.at }
+    {
+        self.digits(20, n);
+    }
 
-fn put_signed(out: &mut [u8; 128], at: usize, a: Num) -> usize
-    requires { at + length (signed a.n) ≤ 128 }
-    ensures { Puts out.old at (signed a.n) out.new result }
-{
-    match number::sign_of(a) {
-        Sign::Plus(k) => put_decimal(out, at, k as u64),
-        Sign::Minus(k) => {
-            let next = put_word(out, at, b"-");
-            put_decimal(out, next, k as u64 + 1)
+    fn signed(&mut self, a: Num)
+        requires { self.old.at + length (signed a.n) ≤ 128 }
+        ensures { Puts self.old.bytes self.old.at (signed a.n) self.new.bytes self.new.at }
+    {
+        match number::sign_of(a) {
+            Sign::Plus(k) => self.decimal(k as u64),
+            Sign::Minus(k) => {
+                self.word(b"-");
+                self.decimal(k as u64 + 1);
+            }
         }
     }
-}
 
-// ---- the parts of a result
+    // ---- the parts of a result
 
-fn put_state(out: &mut [u8; 128], at: usize, s: State) -> usize
-    requires { at + length (state_text s) ≤ 128 }
-    ensures { Puts out.old at (state_text s) out.new result }
-{
-    match s {
-        State::Refused => put_word(out, at, b"none"),
-        State::Running => put_word(out, at, b"running"),
-        State::Done => put_word(out, at, b"done"),
-    }
-}
-
-#[tactic(auto, unfolding(rules::specs::Run::value_text))]
-fn put_datum(out: &mut [u8; 128], at: usize, d: Datum) -> usize
-    requires { at + length (value_text (Some d)) ≤ 128 }
-    ensures { Puts out.old at (value_text (Some d)) out.new result }
-{
-    match d {
-        Datum::Int(n) => {
-            let next = put_word(out, at, b"c");
-            put_signed(out, next, n)
-        }
-        Datum::Imm(n) => {
-            let next = put_word(out, at, b"i");
-            put_signed(out, next, n)
-        }
-        Datum::Place(b, _) => {
-            let next = put_word(out, at, b"b");
-            put_decimal(out, next, b as u64)
+    fn state(&mut self, s: State)
+        requires { self.old.at + length (state_text s) ≤ 128 }
+        ensures { Puts self.old.bytes self.old.at (state_text s) self.new.bytes self.new.at }
+    {
+        match s {
+            State::Refused => self.word(b"none"),
+            State::Running => self.word(b"running"),
+            State::Done => self.word(b"done"),
         }
     }
-}
 
-#[tactic(auto, unfolding(rules::specs::Run::value_text))]
-fn put_value(out: &mut [u8; 128], at: usize, v: Given) -> usize
-    requires { at + length (value_text v) ≤ 128 }
-    ensures { Puts out.old at (value_text v) out.new result }
-{
-    match v {
-        None => put_word(out, at, b"none"),
-        Some(d) => put_datum(out, at, d),
+    #[tactic(auto, unfolding(rules::specs::Run::value_text))]
+    fn datum(&mut self, d: Datum)
+        requires { self.old.at + length (value_text (Some d)) ≤ 128 }
+        ensures { Puts self.old.bytes self.old.at (value_text (Some d)) self.new.bytes self.new.at }
+    {
+        match d {
+            Datum::Int(n) => {
+                self.word(b"c");
+                self.signed(n);
+            }
+            Datum::Imm(n) => {
+                self.word(b"i");
+                self.signed(n);
+            }
+            Datum::Place(b, _) => {
+                self.word(b"b");
+                self.decimal(b as u64);
+            }
+        }
+    }
+
+    #[tactic(auto, unfolding(rules::specs::Run::value_text))]
+    fn value(&mut self, v: Given)
+        requires { self.old.at + length (value_text v) ≤ 128 }
+        ensures { Puts self.old.bytes self.old.at (value_text v) self.new.bytes self.new.at }
+    {
+        match v {
+            None => self.word(b"none"),
+            Some(d) => self.datum(d),
+        }
+    }
+
+    #[tactic(auto, using(crate::specs::Room::decimal_room))]
+    fn answer(a: Answer) -> Page
+        ensures { (result.bytes ≡ printed (answer_text a)) × (result.at ≡ length (answer_text a)) }
+    {
+        let mut page = Page {
+            bytes: [0; 128],
+            at: 0,
+        };
+        page.word(b"answer=");
+        page.decimal(a.number as u64);
+        page.word(b"\nline=");
+        page.decimal(a.line as u64);
+        page.word(b"\n");
+        page
     }
 }
 
 // ---- what the programs print
 
 // The checking program's text, and how many bytes it has.
-#[tactic(auto, using(crate::specs::Room::decimal_room))]
 pub fn answer_text(a: Answer, out: &mut [u8; 128]) -> usize
     ensures { (out.new ≡ printed (answer_text a)) × (result ≡ length (answer_text a)) }
 {
-    *out = [0; 128];
-    let number = a.number as u64;
-    let line = a.line as u64;
-    let at = put_word(out, 0, b"answer=");
-    let at = put_decimal(out, at, number);
-    let at = put_word(out, at, b"\nline=");
-    let at = put_decimal(out, at, line);
-    put_word(out, at, b"\n")
+    let page = Page::answer(a);
+    let bytes = page.bytes;
+    *out = bytes;
+    page.at
 }
 
 // The running program's text, and how many bytes it has.
@@ -145,12 +163,15 @@ pub fn result_text(
 ) -> usize
     ensures { let text = result_text (record { answer = answer; state = state; steps = steps; value = value }) in (out.new ≡ printed text) × (result ≡ length text) }
 {
-    let at = answer_text(answer, out);
-    let at = put_word(out, at, b"state=");
-    let at = put_state(out, at, state);
-    let at = put_word(out, at, b"\nsteps=");
-    let at = put_decimal(out, at, steps as u64);
-    let at = put_word(out, at, b"\nvalue=");
-    let at = put_value(out, at, value);
-    put_word(out, at, b"\n")
+    let mut page = Page::answer(answer);
+    page.word(b"state=");
+    page.state(state);
+    page.word(b"\nsteps=");
+    page.decimal(steps as u64);
+    page.word(b"\nvalue=");
+    page.value(value);
+    page.word(b"\n");
+    let bytes = page.bytes;
+    *out = bytes;
+    page.at
 }

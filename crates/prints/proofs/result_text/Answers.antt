@@ -6,5 +6,5 @@ use Rattle.prints.proofs.result_text.Goals as goal
 pub returns : goal.returns
 unfolding result_text
 returns c =
-    let start = put_by c.answer_text-at.ensures.0 c.answer_text-at.ensures.1 in
-    printed_by (then (then (then (then (then (then (then start c.put_word-at.ensures) c.put_state-at.ensures) c.put_word-at-2.ensures) c.put_decimal-at.ensures) c.put_word-at-3.ensures) c.put_value-at.ensures) c.put_word.ensures)
+    let start = put_by c.answer-page.ensures.0 c.answer-page.ensures.1 in
+    printed_by (then (then (then (then (then (then (then start c.word.ensures) c.state.ensures) c.word-2.ensures) c.decimal.ensures) c.word-3.ensures) c.value.ensures) c.word-4.ensures)

@@ -1,5 +1,0 @@
--- The measure: the digits that may still be written.
-use Rattle.prints.proofs.+put_digits.Given as goal
-
-abbrev pub decreases-put_digits : goal.decreases-put_digits
-decreases-put_digits l = l.most
