@@ -1,60 +1,63 @@
 // Many texts from standard input: for each a line `check N` or `run N`, then N bytes. What the checking or the running program prints is printed for each.
 #![tactic(auto)]
 
+ghost use Rattle.std.specs.Prelude.{◌≤◌};
+ghost use Rattle.io.specs.Counts.{IsPrefixLen};
+
 // The standard input and output, as the system numbers them.
 const STDIN_FILENO: i32 = 0;
 
 const STDOUT_FILENO: i32 = 1;
 
-// The next byte of the input, 256 at its end.
-fn next_byte() -> u64 {
+// What is asked of a text.
+#[derive(Clone, Copy)]
+enum Asked {
+    Check,
+    Run,
+}
+
+impl Asked {
+    // No more of a text is read than decides its answer.
+    fn most(self) -> usize
+        ensures { result ≤ 49153 }
+    {
+        match self {
+            Asked::Check => 32769,
+            Asked::Run => 49153,
+        }
+    }
+
+    fn prints(self, text: &[u8], out: &mut [u8; 128]) -> usize
+        ensures { IsPrefixLen result out.new }
+    {
+        match self {
+            Asked::Check => told::check_prints(text, out),
+            Asked::Run => told::run_prints(text, out),
+        }
+    }
+}
+
+// The next byte of the input; none at its end.
+fn next_byte() -> Option<u8> {
     let mut one = [0u8; 1];
     let got = io::read_full(STDIN_FILENO, &mut one);
-    if got == 0 { 256 } else { wide(one[0]) }
-}
-
-fn wide(b: u8) -> u64 {
-    b as u64
-}
-
-// What a length line holds: the length, or the end of the input.
-#[derive(Drop)]
-enum Length {
-    Of(usize),
-    End,
+    if got == 0 { None } else { Some(one[0]) }
 }
 
 // A length of at most seven digits and its line feed; anything else ends the input.
-fn next_length() -> Length {
+fn next_length() -> Option<usize> {
     let mut n: usize = 0;
-    let mut digits: usize = 0;
-    while digits < 8 {
-        let b = next_byte();
-        if b == 10 {
-            if digits == 0 {
-                return None;
-            }
-            return Some(n);
+    for digits in 0..8 {
+        match next_byte()? {
+            b'\n' if 0 < digits => return Some(n),
+            b @ b'0'..=b'9' => n = (n * 10 + usize::from(b - b'0')) % 100000000,
+            _ => return None,
         }
-        if b < 48 {
-            return None;
-        }
-        if 57 < b {
-            return None;
-        }
-        n = (n * 10 + (b - 48) as usize) % 100000000;
-        digits += 1;
     }
     None
 }
 
 // At most so many bytes of the input are read, and their number is told.
-fn read_some(most: usize) -> usize {
-    let mut space = io::buffer();
-    let chunk: &mut [u8] = &mut space;
-    read_into(chunk, most)
-}
-
 fn read_into(chunk: &mut [u8], most: usize) -> usize {
     if most < chunk.len() {
         io::read_full(STDIN_FILENO, &mut chunk[..most])
@@ -63,7 +66,13 @@ fn read_into(chunk: &mut [u8], most: usize) -> usize {
     }
 }
 
-// So many bytes are passed over.
+fn read_some(most: usize) -> usize {
+    let mut space = io::buffer();
+    let chunk: &mut [u8] = &mut space;
+    read_into(chunk, most)
+}
+
+// So many bytes are passed over. How many each turn reads is the system's to say.
 fn pass_over(n: usize) {
     let mut left = n;
     while 0 < left {
@@ -71,77 +80,48 @@ fn pass_over(n: usize) {
         if got == 0 {
             return;
         }
-        if left <= got {
-            return;
-        }
-        left -= got;
+        left = left.saturating_sub(got);
     }
 }
 
-// A glue text is judged by as much of it as decides its answer.
-fn check_text(n: usize) {
-    let mut room = [0u8; 32769];
-    let text: &mut [u8] = &mut room;
-    let got = read_into(text, n);
-    check_first(text, got);
-    pass_rest(n, got);
-}
-
-fn check_first(text: &[u8], n: usize) {
-    let mut out = [0u8; 128];
-    if n <= text.len() {
-        let m = told::check_prints(&text[..n], &mut out);
-        io::write_all(STDOUT_FILENO, &out[..m]);
-    }
-}
-
-// So is a joined text.
-fn run_text(n: usize) {
+// A text of n bytes is answered by as much of it as decides its answer.
+fn answer(asked: Asked, n: usize) {
     let mut room = [0u8; 49153];
-    let text: &mut [u8] = &mut room;
+    let text: &mut [u8] = &mut room[..asked.most()];
     let got = read_into(text, n);
-    run_first(text, got);
-    pass_rest(n, got);
-}
-
-fn run_first(text: &[u8], n: usize) {
-    let mut out = [0u8; 128];
-    if n <= text.len() {
-        let m = told::run_prints(&text[..n], &mut out);
-        io::write_all(STDOUT_FILENO, &out[..m]);
-    }
-}
-
-fn pass_rest(n: usize, got: usize) {
+    print_first(asked, text, got);
     if got < n {
         pass_over(n - got);
     }
 }
 
-// The text of a header that begins with the byte b; false at the end of the input.
-fn next_text(b: u64) -> bool {
-    let run = b == 114;
-    pass_over(if run { 3 } else { 5 });
-    match next_length() {
-        Some(n) => {
-            if run {
-                run_text(n);
-            } else {
-                check_text(n);
-            }
-            true
-        }
-        None => false,
+fn print_first(asked: Asked, text: &[u8], n: usize) {
+    let mut out = [0u8; 128];
+    if n <= text.len() {
+        let m = asked.prints(&text[..n], &mut out);
+        io::write_all(STDOUT_FILENO, &out[..m]);
     }
 }
 
+// The text of the next header; none at the end of the input.
+fn next_text() -> Option<()> {
+    let asked = if next_byte()? == b'r' {
+        Asked::Run
+    } else {
+        Asked::Check
+    };
+    pass_over(match asked {
+        Asked::Run => 3,
+        Asked::Check => 5,
+    });
+    answer(asked, next_length()?);
+    Some(())
+}
+
 fn main() {
-    let mut texts: usize = 0;
-    while texts < 1000000 {
-        let b = next_byte();
-        if !next_text(b) {
+    for _ in 0..1000000 {
+        if next_text().is_none() {
             return;
         }
-        texts += 1;
     }
 }

@@ -4,6 +4,7 @@
 // With `SEED COUNT` as standard input, COUNT machines are mangled by a generator and run, and their answers are counted.
 #![tactic(auto)]
 
+use moves::Moved;
 use rules::Stepped;
 
 // The standard input and output, as the system numbers them.
@@ -24,96 +25,148 @@ const LOOP_GLUE: [u8; 479] =
 const LOOP_STORE: [u8; 63] =
     *b"run=40\nblock=1 1 i300 i20\nblock=2 0 b0 i5\narg=b1\narg=b0\narg=c2\n";
 
-// The tables as a glue text and a store text give them.
-fn read_tables(
-    glue: &[u8],
-    blocks: &[u8],
-    size: &mut [u32; 6],
-    nodes: &mut [u64; 4096],
-    labels: &mut [u64; 6208],
-    body: &mut [u32; 2560],
-    store: &mut [u32; 2],
-    heads: &mut [u32; 768],
-    cells: &mut [u64; 4352],
-    vals: &mut [u64; 32],
-) {
-    let mut rows = [0u32; 17536];
-    let mut vars = [0u32; 96];
-    checker::check(glue, size, nodes, &mut rows, &mut vars, labels, body);
-    store::read(blocks, size, &rows, &vars, store, heads, cells, vals);
+// A part of a machine: a table, or a number that a run takes.
+#[derive(Clone, Copy, PartialEq, Eq)]
+enum Part {
+    Size,
+    Nodes,
+    Labels,
+    Body,
+    Store,
+    Heads,
+    Cells,
+    Vals,
+    At,
+    Value,
+    All,
 }
 
-fn say(out: Stepped) {
+impl Part {
+    fn takes_in(self, part: Part) -> bool {
+        self == Part::All || self == part
+    }
+}
+
+// The tables of a program and of a store that a run takes.
+#[derive(Clone, Copy)]
+struct Tables {
+    size: [u32; 6],
+    nodes: [u64; 4096],
+    labels: [u64; 6208],
+    body: [u32; 2560],
+    store: [u32; 2],
+    heads: [u32; 768],
+    cells: [u64; 4352],
+    vals: [u64; 32],
+}
+
+impl Tables {
+    // As a glue text and a store text give them.
+    fn read(glue: &[u8], blocks: &[u8]) -> Tables {
+        let mut t = Tables {
+            size: [0; 6],
+            nodes: [0; 4096],
+            labels: [0; 6208],
+            body: [0; 2560],
+            store: [0; 2],
+            heads: [0; 768],
+            cells: [0; 4352],
+            vals: [0; 32],
+        };
+        t.read_over(glue, blocks);
+        t
+    }
+
+    // What is refused leaves tables that are zero, and the run goes on over these.
+    fn read_over(&mut self, glue: &[u8], blocks: &[u8]) {
+        let mut rows = [0u32; 17536];
+        let mut vars = [0u32; 96];
+        checker::check(
+            glue,
+            &mut self.size,
+            &mut self.nodes,
+            &mut rows,
+            &mut vars,
+            &mut self.labels,
+            &mut self.body,
+        );
+        let _answer = store::read(
+            blocks,
+            &self.size,
+            &rows,
+            &vars,
+            &mut self.store,
+            &mut self.heads,
+            &mut self.cells,
+            &mut self.vals,
+        );
+    }
+
+    // One number everywhere in one table, or in all.
+    fn fill(&mut self, part: Part, x: u64) {
+        if part.takes_in(Part::Size) {
+            self.size = [low_half(x); 6];
+        }
+        if part.takes_in(Part::Nodes) {
+            self.nodes = [x; 4096];
+        }
+        if part.takes_in(Part::Labels) {
+            self.labels = [x; 6208];
+        }
+        if part.takes_in(Part::Body) {
+            self.body = [low_half(x); 2560];
+        }
+        if part.takes_in(Part::Store) {
+            self.store = [low_half(x); 2];
+        }
+        if part.takes_in(Part::Heads) {
+            self.heads = [low_half(x); 768];
+        }
+        if part.takes_in(Part::Cells) {
+            self.cells = [x; 4352];
+        }
+        if part.takes_in(Part::Vals) {
+            self.vals = [x; 32];
+        }
+    }
+
+    // The generator's number is handed from table to table. The budget is kept below 64, so that each run ends soon.
+    fn mangle(&mut self, all: bool, x: u64) -> u64 {
+        let x = mangle(&mut self.size, all, x);
+        let x = mangle(&mut self.nodes, all, x);
+        let x = mangle(&mut self.labels, all, x);
+        let x = mangle(&mut self.body, all, x);
+        let x = mangle(&mut self.store, all, x);
+        let x = mangle(&mut self.heads, all, x);
+        let x = mangle(&mut self.cells, all, x);
+        let x = mangle(&mut self.vals, all, x);
+        self.store[0] = (x % 64) as u32;
+        next(x)
+    }
+
+    fn run(&mut self, at: usize, steps: u32, value: u64) -> Moved {
+        machine::run(
+            &self.size,
+            &self.nodes,
+            &self.labels,
+            &self.body,
+            &self.store,
+            &self.heads,
+            &mut self.cells,
+            &mut self.vals,
+            at,
+            steps,
+            value,
+        )
+    }
+}
+
+fn said(out: Stepped) -> &'static [u8] {
     match out {
-        Stepped::Moved => {
-            io::write_all(STDOUT_FILENO, b" moved ");
-        }
-        Stepped::Stuck => {
-            io::write_all(STDOUT_FILENO, b" stuck ");
-        }
-        Stepped::Returned => {
-            io::write_all(STDOUT_FILENO, b" returned ");
-        }
-        Stepped::Spent => {
-            io::write_all(STDOUT_FILENO, b" spent ");
-        }
-    }
-}
-
-// ---- one table filled with one number
-
-// What is filled: the tables and numbers of a machine in the order in which a run takes them, then all tables.
-const AT: usize = 8;
-
-const VALUE: usize = 9;
-
-const ALL: usize = 10;
-
-fn is_filled(which: usize, table: usize) -> bool {
-    if which == ALL { true } else { which == table }
-}
-
-fn fill_program(
-    which: usize,
-    x: u64,
-    size: &mut [u32; 6],
-    nodes: &mut [u64; 4096],
-    labels: &mut [u64; 6208],
-    body: &mut [u32; 2560],
-) {
-    if is_filled(which, 0) {
-        *size = [low_half(x); 6];
-    }
-    if is_filled(which, 1) {
-        *nodes = [x; 4096];
-    }
-    if is_filled(which, 2) {
-        *labels = [x; 6208];
-    }
-    if is_filled(which, 3) {
-        *body = [low_half(x); 2560];
-    }
-}
-
-fn fill_store(
-    which: usize,
-    x: u64,
-    store: &mut [u32; 2],
-    heads: &mut [u32; 768],
-    cells: &mut [u64; 4352],
-    vals: &mut [u64; 32],
-) {
-    if is_filled(which, 4) {
-        *store = [low_half(x); 2];
-    }
-    if is_filled(which, 5) {
-        *heads = [low_half(x); 768];
-    }
-    if is_filled(which, 6) {
-        *cells = [x; 4352];
-    }
-    if is_filled(which, 7) {
-        *vals = [x; 32];
+        Stepped::Moved => b" moved ",
+        Stepped::Stuck => b" stuck ",
+        Stepped::Returned => b" returned ",
+        Stepped::Spent => b" spent ",
     }
 }
 
@@ -121,78 +174,35 @@ fn low_half(x: u64) -> u32 {
     (x % 4294967296) as u32
 }
 
-// A run: what it says, and its steps. The line and the returned value are filled here.
-fn show_run(
-    which: usize,
-    x: u64,
-    size: &[u32; 6],
-    nodes: &[u64; 4096],
-    labels: &[u64; 6208],
-    body: &[u32; 2560],
-    store: &[u32; 2],
-    heads: &[u32; 768],
-    cells: &mut [u64; 4352],
-    vals: &mut [u64; 32],
-) {
-    let at = if which == AT { x as usize } else { 0 };
-    let value = if which == VALUE { x } else { 0 };
-    let m = machine::run(
-        size, nodes, labels, body, store, heads, cells, vals, at, 0, value,
-    );
-    let out = m.out;
-    say(out);
-    io::print_decimal(STDOUT_FILENO, m.steps as u64);
-}
+// ---- one part filled with one number
 
-// The run of a machine of which one part is filled with x.
-fn run_filled(which: usize, x: u64) {
-    let mut size = [0u32; 6];
-    let mut nodes = [0u64; 4096];
-    let mut labels = [0u64; 6208];
-    let mut body = [0u32; 2560];
-    let mut store = [0u32; 2];
-    let mut heads = [0u32; 768];
-    let mut cells = [0u64; 4352];
-    let mut vals = [0u64; 32];
-    read_tables(
-        &SUM_GLUE,
-        &SUM_STORE,
-        &mut size,
-        &mut nodes,
-        &mut labels,
-        &mut body,
-        &mut store,
-        &mut heads,
-        &mut cells,
-        &mut vals,
-    );
-    fill_program(which, x, &mut size, &mut nodes, &mut labels, &mut body);
-    fill_store(which, x, &mut store, &mut heads, &mut cells, &mut vals);
-    show_run(
-        which, x, &size, &nodes, &labels, &body, &store, &heads, &mut cells, &mut vals,
-    );
-}
-
-fn line(pattern: &[u8], x: u64, table: &[u8], which: usize) {
+// The run of a machine of which one part is filled with x: what it says, and its steps.
+fn line(pattern: &[u8], x: u64, name: &[u8], part: Part) {
     io::write_all(STDOUT_FILENO, pattern);
-    io::write_all(STDOUT_FILENO, table);
-    run_filled(which, x);
+    io::write_all(STDOUT_FILENO, name);
+    let mut t = Tables::read(&SUM_GLUE, &SUM_STORE);
+    t.fill(part, x);
+    let at = if part == Part::At { x as usize } else { 0 };
+    let value = if part == Part::Value { x } else { 0 };
+    let m = t.run(at, 0, value);
+    io::write_all(STDOUT_FILENO, said(m.out));
+    io::print_decimal(STDOUT_FILENO, u64::from(m.steps));
     io::write_all(STDOUT_FILENO, b"\n");
 }
 
 // Each part by turns.
 fn each_filled(pattern: &[u8], x: u64) {
-    line(pattern, x, b"size", 0);
-    line(pattern, x, b"nodes", 1);
-    line(pattern, x, b"labels", 2);
-    line(pattern, x, b"body", 3);
-    line(pattern, x, b"store", 4);
-    line(pattern, x, b"heads", 5);
-    line(pattern, x, b"cells", 6);
-    line(pattern, x, b"vals", 7);
-    line(pattern, x, b"at", AT);
-    line(pattern, x, b"value", VALUE);
-    line(pattern, x, b"all", ALL);
+    line(pattern, x, b"size", Part::Size);
+    line(pattern, x, b"nodes", Part::Nodes);
+    line(pattern, x, b"labels", Part::Labels);
+    line(pattern, x, b"body", Part::Body);
+    line(pattern, x, b"store", Part::Store);
+    line(pattern, x, b"heads", Part::Heads);
+    line(pattern, x, b"cells", Part::Cells);
+    line(pattern, x, b"vals", Part::Vals);
+    line(pattern, x, b"at", Part::At);
+    line(pattern, x, b"value", Part::Value);
+    line(pattern, x, b"all", Part::All);
 }
 
 // ---- the generator
@@ -247,118 +257,62 @@ fn place(x: u64) -> usize {
 
 // ---- random tables: each function takes the generator's number and gives the next one
 
-// One turn a number.
-fn fill32(t: &mut [u32], x: u64) -> u64 {
-    let flavour = x % 5;
-    let n = t.len();
-    let mut drawn = x;
-    let mut i = 0;
-    while i < n {
-        drawn = next(drawn);
-        table::put32(t, i, low_half(number_in_table(flavour, drawn)));
-        i += 1;
-    }
-    next(drawn)
+// A number of a table, made from what the generator draws.
+trait Drawn: Copy + Drop {
+    fn from_drawn(x: u64) -> Self;
 }
 
-fn fill64(t: &mut [u64], x: u64) -> u64 {
+impl Drawn for u32 {
+    fn from_drawn(x: u64) -> u32 {
+        low_half(x)
+    }
+}
+
+impl Drawn for u64 {
+    fn from_drawn(x: u64) -> u64 {
+        x
+    }
+}
+
+// One turn a number.
+fn fill<T: Drawn>(t: &mut [T], x: u64) -> u64 {
     let flavour = x % 5;
-    let n = t.len();
     let mut drawn = x;
-    let mut i = 0;
-    while i < n {
+    for place in t.iter_mut() {
         drawn = next(drawn);
-        table::put64(t, i, number_in_table(flavour, drawn));
-        i += 1;
+        *place = T::from_drawn(number_in_table(flavour, drawn));
     }
     next(drawn)
 }
 
 // At most three numbers are changed.
-fn change32(t: &mut [u32], x: u64) -> u64 {
-    let mut left = x % 4;
+fn change<T: Drawn>(t: &mut [T], x: u64) -> u64 {
     let mut drawn = next(x);
-    while 0 < left {
-        left -= 1;
+    for _ in 0..x % 4 {
         let i = place(drawn);
         drawn = next(drawn);
-        table::put32(t, i, low_half(number_in_table(4, drawn)));
-        drawn = next(drawn);
-    }
-    drawn
-}
-
-fn change64(t: &mut [u64], x: u64) -> u64 {
-    let mut left = x % 4;
-    let mut drawn = next(x);
-    while 0 < left {
-        left -= 1;
-        let i = place(drawn);
-        drawn = next(drawn);
-        table::put64(t, i, number_in_table(4, drawn));
+        table::put(t, i, T::from_drawn(number_in_table(4, drawn)));
         drawn = next(drawn);
     }
     drawn
 }
 
 // To fill a whole table takes long, so it is done seldom; most tables stay as they are.
-fn mangle32(t: &mut [u32], all: bool, x: u64) -> u64 {
+fn mangle<T: Drawn>(t: &mut [T], all: bool, x: u64) -> u64 {
     if all {
-        return fill32(t, x);
+        return fill(t, x);
     }
     match x % 64 {
-        0 => fill32(t, next(x)),
-        1..=20 => change32(t, next(x)),
+        0 => fill(t, next(x)),
+        1..=20 => change(t, next(x)),
         _ => next(x),
     }
-}
-
-fn mangle64(t: &mut [u64], all: bool, x: u64) -> u64 {
-    if all {
-        return fill64(t, x);
-    }
-    match x % 64 {
-        0 => fill64(t, next(x)),
-        1..=20 => change64(t, next(x)),
-        _ => next(x),
-    }
-}
-
-fn mangle_program(
-    all: bool,
-    x: u64,
-    size: &mut [u32; 6],
-    nodes: &mut [u64; 4096],
-    labels: &mut [u64; 6208],
-    body: &mut [u32; 2560],
-) -> u64 {
-    let a = mangle32(size, all, x);
-    let b = mangle64(nodes, all, a);
-    let c = mangle64(labels, all, b);
-    mangle32(body, all, c)
-}
-
-// The budget is kept below 64, so that each run ends soon.
-fn mangle_store(
-    all: bool,
-    x: u64,
-    store: &mut [u32; 2],
-    heads: &mut [u32; 768],
-    cells: &mut [u64; 4352],
-    vals: &mut [u64; 32],
-) -> u64 {
-    let a = mangle32(store, all, x);
-    let b = mangle32(heads, all, a);
-    let c = mangle64(cells, all, b);
-    let d = mangle64(vals, all, c);
-    store[0] = (d % 64) as u32;
-    next(d)
 }
 
 // ---- random machines
 
 // The generator's number; how many machines were stuck, returned, spent; the steps of all of them.
-#[derive(Drop)]
+#[derive(Clone, Copy)]
 struct Tally {
     drawn: u64,
     stuck: u64,
@@ -367,20 +321,38 @@ struct Tally {
     steps: u64,
 }
 
-fn plus(a: u64, b: u64) -> u64 {
-    std::num::wrapping_add_u64(a, b)
-}
-
-fn counted(t: Tally, out: Stepped, steps: u64) -> Tally {
-    let mut r = t;
-    match out {
-        Stepped::Moved => {}
-        Stepped::Stuck => r.stuck = plus(r.stuck, 1),
-        Stepped::Returned => r.returned = plus(r.returned, 1),
-        Stepped::Spent => r.spent = plus(r.spent, 1),
+impl Tally {
+    fn count(&mut self, out: Stepped, steps: u32) {
+        match out {
+            Stepped::Moved => {}
+            Stepped::Stuck => self.stuck = self.stuck.wrapping_add(1),
+            Stepped::Returned => self.returned = self.returned.wrapping_add(1),
+            Stepped::Spent => self.spent = self.spent.wrapping_add(1),
+        }
+        self.steps = self.steps.wrapping_add(u64::from(steps));
     }
-    r.steps = plus(r.steps, steps);
-    r
+
+    // The line, the count of steps and the returned value are drawn too.
+    fn run(&mut self, t: &mut Tables) {
+        let a = next(self.drawn);
+        let b = next(a);
+        let c = next(b);
+        let steps = low_half(seldom(b));
+        let m = t.run(seldom(a) as usize, steps, seldom(c));
+        self.count(m.out, m.steps.wrapping_sub(steps));
+        self.drawn = c;
+    }
+
+    // Machines that start from the tables of two texts, which are copied and mangled for each.
+    fn run_from(&mut self, count: u64, glue: &[u8], blocks: &[u8]) {
+        let start = Tables::read(glue, blocks);
+        for _ in 0..count {
+            let mut t = start;
+            let all = self.drawn % 64 == 0;
+            self.drawn = t.mangle(all, next(self.drawn));
+            self.run(&mut t);
+        }
+    }
 }
 
 // Mostly 0, else of any flavour.
@@ -392,118 +364,6 @@ fn seldom(x: u64) -> u64 {
     }
 }
 
-// The line, the count of steps and the returned value are drawn too.
-fn run_drawn(
-    t: Tally,
-    size: &[u32; 6],
-    nodes: &[u64; 4096],
-    labels: &[u64; 6208],
-    body: &[u32; 2560],
-    store: &[u32; 2],
-    heads: &[u32; 768],
-    cells: &mut [u64; 4352],
-    vals: &mut [u64; 32],
-) -> Tally {
-    let a = next(t.drawn);
-    let b = next(a);
-    let c = next(b);
-    let at = seldom(a) as usize;
-    let steps = low_half(seldom(b));
-    let m = machine::run(
-        size,
-        nodes,
-        labels,
-        body,
-        store,
-        heads,
-        cells,
-        vals,
-        at,
-        steps,
-        seldom(c),
-    );
-    let out = m.out;
-    let mut r = counted(t, out, std::num::wrapping_sub_u32(m.steps, steps) as u64);
-    r.drawn = c;
-    r
-}
-
-// The tables are copied, mangled and run.
-fn run_mangled(
-    t: Tally,
-    size: &[u32; 6],
-    nodes: &[u64; 4096],
-    labels: &[u64; 6208],
-    body: &[u32; 2560],
-    store: &[u32; 2],
-    heads: &[u32; 768],
-    cells: &[u64; 4352],
-    vals: &[u64; 32],
-) -> Tally {
-    let mut z = *size;
-    let mut n = *nodes;
-    let mut l = *labels;
-    let mut b = *body;
-    let mut s = *store;
-    let mut h = *heads;
-    let mut c = *cells;
-    let mut v = *vals;
-    let all = t.drawn % 64 == 0;
-    let x = mangle_program(all, next(t.drawn), &mut z, &mut n, &mut l, &mut b);
-    let mut r = t;
-    r.drawn = mangle_store(all, x, &mut s, &mut h, &mut c, &mut v);
-    run_drawn(r, &z, &n, &l, &b, &s, &h, &mut c, &mut v)
-}
-
-// One turn a machine.
-fn run_many(
-    t: Tally,
-    count: u64,
-    size: &[u32; 6],
-    nodes: &[u64; 4096],
-    labels: &[u64; 6208],
-    body: &[u32; 2560],
-    store: &[u32; 2],
-    heads: &[u32; 768],
-    cells: &[u64; 4352],
-    vals: &[u64; 32],
-) -> Tally {
-    let mut r = t;
-    let mut left = count;
-    while 0 < left {
-        left -= 1;
-        r = run_mangled(r, size, nodes, labels, body, store, heads, cells, vals);
-    }
-    r
-}
-
-// Machines that start from the tables of two texts.
-fn run_from(t: Tally, count: u64, glue: &[u8], blocks: &[u8]) -> Tally {
-    let mut size = [0u32; 6];
-    let mut nodes = [0u64; 4096];
-    let mut labels = [0u64; 6208];
-    let mut body = [0u32; 2560];
-    let mut store = [0u32; 2];
-    let mut heads = [0u32; 768];
-    let mut cells = [0u64; 4352];
-    let mut vals = [0u64; 32];
-    read_tables(
-        glue,
-        blocks,
-        &mut size,
-        &mut nodes,
-        &mut labels,
-        &mut body,
-        &mut store,
-        &mut heads,
-        &mut cells,
-        &mut vals,
-    );
-    run_many(
-        t, count, &size, &nodes, &labels, &body, &store, &heads, &cells, &vals,
-    )
-}
-
 fn total(name: &[u8], n: u64) {
     io::write_all(STDOUT_FILENO, name);
     io::print_decimal(STDOUT_FILENO, n);
@@ -513,15 +373,15 @@ fn total(name: &[u8], n: u64) {
 // One half starts from the sum, the other from the loop. The generator never draws 0, so it must not start from it.
 fn run_random(seed: u64, count: u64) {
     let first = count / 2;
-    let none = Tally {
-        drawn: plus(seed, 4294967296),
+    let mut t = Tally {
+        drawn: seed.wrapping_add(4294967296),
         stuck: 0,
         returned: 0,
         spent: 0,
         steps: 0,
     };
-    let some = run_from(none, first, &SUM_GLUE, &SUM_STORE);
-    let t = run_from(some, count - first, &LOOP_GLUE, &LOOP_STORE);
+    t.run_from(first, &SUM_GLUE, &SUM_STORE);
+    t.run_from(count - first, &LOOP_GLUE, &LOOP_STORE);
     total(b"stuck ", t.stuck);
     total(b"returned ", t.returned);
     total(b"spent ", t.spent);
