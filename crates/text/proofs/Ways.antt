@@ -6,7 +6,7 @@ use lib.ListN.{drop_of_length-le}
 use lib.Seq.{drop-cons}
 use borrow.Author.Tests.{lt-ltb, le-ltb, eq-eqb, ne_eqb}
 use Rattle.std.specs.Prelude.{◌+◌, ◌-◌, ◌*◌, ◌<◌, ◌≤◌, ◌&&◌, ◌≡◌, Ok, Err}
-use Rattle.rules.specs.Prelude.{ℕ, suc, max, Bool, true, false, not, List, refl, sym, ap, ◌∙◌, eqb, length, get_or, drop}
+use Rattle.rules.specs.Prelude.{ℕ, suc, max, Bool, true, false, not, List, refl, sym, ap, ◌∙◌, eqb, length, get_or, drop, Result}
 use Rattle.rules.specs.Text.Words.{Reading}
 use Rattle.rules.specs.When.{when}
 use Rattle.rules.proofs.Laws.Tests.{by_when}
@@ -138,20 +138,6 @@ module _ (s : List ℕ) (at : ℕ) {b : ℕ} (e : b ≡ byte_at s at) where
   unfolding byte_is
   byte_not x h = rw (← e, ne_eqb b x)
 
-  pub var_there_lem : b ≡ 118 → var_at s at ≡ plain_at s (at + 1)
-  unfolding var_at
-  var_there_lem h = rw (← e, eq-eqb b 118)
-
-  pub var_not : (b ≡ 118 → ⊥) → var_at s at ≡ Err at
-  unfolding var_at
-  var_not h = rw (← e, ne_eqb b 118)
-
-  pub val_short : (b ≡ 32 → ⊥) → operator_head s (Ok (5, at)) ≡ Err at
-  val_short h = rw (← e, ne_eqb b 32)
-
-  pub val_row : b ≡ 32 → operator_head s (Ok (5, at)) ≡ head_of 5 (plain_at s (at + 1))
-  val_row h = rw (← e, eq-eqb b 32)
-
   pub head_number : b < 58 → head_at s at ≡ head_of 1 (number_at s at)
   unfolding head_at
   head_number h = rw (← e, lt-ltb b 58)
@@ -165,6 +151,34 @@ module _ (s : List ℕ) (at : ℕ) {b : ℕ} (e : b ≡ byte_at s at) where
     pub head_operator : v ≡ false → head_at s at ≡ operator_head s (operator_at s at)
     unfolding head_at
     head_operator t = rw (le-ltb (byte_at s at) 58 (rw e at h)) (choice (eqb (byte_at s at) 118) (eqb (byte_at s (at + 1)) 97) _ _ v q ∙ rw t)
+
+-- ---- on from a byte that was passed
+
+module _ {A : Type 0} (go : ℕ → Result A ℕ) (at : ℕ) where
+  bad_by : (t : Bool) {p : ℕ} → when t (λ _. Ok (at + 1)) (λ _. Err at) ≡ Err p → when t (λ _. go (at + 1)) (λ _. Err at) ≡ Err p
+  bad_by true e = absurd (grind arith)
+  bad_by false e = ap Err (grind arith)
+
+  good_by : (t : Bool) {n : ℕ} → when t (λ _. Ok (at + 1)) (λ _. Err at) ≡ Ok n → when t (λ _. go (at + 1)) (λ _. Err at) ≡ go n
+  good_by true e = ap go (grind arith)
+  good_by false e = absurd (grind arith)
+
+module _ (s : List ℕ) (at : ℕ) where
+  pub var_not : {p : ℕ} → byte_is s at 118 ≡ Err p → var_at s at ≡ Err p
+  unfolding byte_is var_at
+  var_not e = bad_by (plain_at s) at (eqb (byte_at s at) 118) e
+
+  pub var_there_lem : {n : ℕ} → byte_is s at 118 ≡ Ok n → var_at s at ≡ plain_at s n
+  unfolding byte_is var_at
+  var_there_lem e = good_by (plain_at s) at (eqb (byte_at s at) 118) e
+
+  pub val_short : {p : ℕ} → byte_is s at 32 ≡ Err p → operator_head s (Ok (5, at)) ≡ Err p
+  unfolding byte_is
+  val_short e = bad_by (λ n. head_of 5 (plain_at s n)) at (eqb (byte_at s at) 32) e
+
+  pub val_row : {n : ℕ} → byte_is s at 32 ≡ Ok n → operator_head s (Ok (5, at)) ≡ head_of 5 (plain_at s n)
+  unfolding byte_is
+  val_row e = good_by (λ n. head_of 5 (plain_at s n)) at (eqb (byte_at s at) 32) e
 
 pub no_val : (s : List ℕ) (op n : ℕ) → (op ≡ 5 → ⊥) → operator_head s (Ok (op, n)) ≡ Ok (op, 0, n)
 no_val s op n h = rw (ne_eqb op 5)

@@ -6,18 +6,11 @@ ghost use Rattle.rules.specs.Text.Words as words;
 
 use rules::{Head, Next, Reading};
 
-// A byte as a number. A function of its own, so that no reader has to show that a byte fits.
-fn wide(b: u8) -> u64
-    ensures { result ≡ b }
-{
-    b as u64
-}
-
 // The byte at i, and 256 past the end.
 pub fn byte_at(s: &[u8], i: usize) -> u64
     ensures { result ≡ words.byte_at s.now i }
 {
-    if i < s.len() { wide(s[i]) } else { 256 }
+    s.get(i).map_or(256, |b| u64::from(*b))
 }
 
 // ---- a reading
@@ -49,14 +42,10 @@ pub fn next_of(r: Reading) -> usize
 fn after_zero(s: &[u8], at: usize) -> Reading
     ensures { (most : ℕ) → result ≡ words.more_digits (drop at s.now) at 0 most }
 {
-    let b = byte_at(s, at);
-    if b < 48 {
-        return Ok((0, at));
+    match byte_at(s, at) {
+        48..=57 => Err(at),
+        _ => Ok((0, at)),
     }
-    if 57 < b {
-        return Ok((0, at));
-    }
-    Err(at)
 }
 
 // The digits after the number `first`, which is not 0 and may grow to `most`.
@@ -65,24 +54,18 @@ fn more_digits(s: &[u8], from: usize, first: u64, most: u64) -> Reading
     requires { (most ≤ 2147483648) × ((1 ≤ first) × (first ≤ most)) }
     ensures { result ≡ words.more_digits (drop from s.now) from first most }
 {
-    let mut i = from;
     let mut v = first;
-    while i < s.len() {
-        let b = wide(s[i]);
-        if b < 48 {
+    for i in from..s.len() {
+        let b = u64::from(s[i]);
+        if b < 48 || 57 < b {
             return Ok((v, i));
         }
-        if 57 < b {
-            return Ok((v, i));
-        }
-        let next = v * 10 + (b - 48);
-        if most < next {
+        v = v * 10 + (b - 48);
+        if most < v {
             return Err(i);
         }
-        v = next;
-        i += 1;
     }
-    Ok((v, i))
+    Ok((v, from.max(s.len())))
 }
 
 // Digits whose first is from `low` to `9`.
@@ -92,10 +75,7 @@ fn magnitude_at(s: &[u8], at: usize, low: u64, most: u64) -> Reading
     ensures { result ≡ words.magnitude_at s.now at low most }
 {
     let b = byte_at(s, at);
-    if b < low {
-        return Err(at);
-    }
-    if 57 < b {
+    if b < low || 57 < b {
         return Err(at);
     }
     if b == 48 {
@@ -120,11 +100,8 @@ pub fn number_at(s: &[u8], at: usize) -> Reading
     if byte_at(s, at) != 45 {
         return plain_at(s, at);
     }
-    let m = magnitude_at(s, at + 1, 49, 2147483648);
-    match m {
-        Ok((v, n)) => Ok((4294967296 - v, n)),
-        Err(p) => Err(p),
-    }
+    let (v, n) = magnitude_at(s, at + 1, 49, 2147483648)?;
+    Ok((4294967296 - v, n))
 }
 
 // ---- fixed words
@@ -134,27 +111,13 @@ pub fn number_at(s: &[u8], at: usize) -> Reading
 fn agree(s: &[u8], at: usize, w: &[u8]) -> usize
     ensures { result ≡ words.agreed w.now (drop at s.now) }
 {
-    let mut i = at;
-    let mut k = 0;
-    while k < w.len() {
-        if s.len() <= i {
+    for (k, b) in w.iter().enumerate() {
+        let i = at + k;
+        if s.len() <= i || s[i] != *b {
             return k;
         }
-        let x = s[i];
-        let y = w[k];
-        if x != y {
-            return k;
-        }
-        i += 1;
-        k += 1;
     }
-    k
-}
-
-fn larger(a: usize, b: usize) -> usize
-    ensures { result ≡ max a b }
-{
-    if a < b { b } else { a }
+    w.len()
 }
 
 // The word found before; else k if the word w stands at `at`; else the farther of the two wrong bytes.
@@ -162,16 +125,14 @@ fn larger(a: usize, b: usize) -> usize
 pub fn or_word(s: &[u8], at: usize, w: &[u8], k: u64, found: Reading) -> Reading
     ensures { result ≡ words.or_word s.now at w.now k found }
 {
-    match found {
-        Ok((j, n)) => Ok((j, n)),
-        Err(p) => {
-            let n = agree(s, at, w);
-            if n == w.len() {
-                Ok((k, at + n))
-            } else {
-                Err(larger(p, at + n))
-            }
-        }
+    let Err(p) = found else {
+        return found;
+    };
+    let n = agree(s, at, w);
+    if n == w.len() {
+        Ok((k, at + n))
+    } else {
+        Err(p.max(at + n))
     }
 }
 
@@ -180,7 +141,7 @@ pub fn or_word(s: &[u8], at: usize, w: &[u8], k: u64, found: Reading) -> Reading
 pub fn byte_is(s: &[u8], at: usize, b: u8) -> Next
     ensures { result ≡ words.byte_is s.now at b }
 {
-    if byte_at(s, at) == wide(b) {
+    if byte_at(s, at) == u64::from(b) {
         Ok(at + 1)
     } else {
         Err(at)
@@ -188,15 +149,11 @@ pub fn byte_is(s: &[u8], at: usize, b: u8) -> Next
 }
 
 // A variable: `v` and its number.
-#[tactic(auto, using(crate::proofs::Laws::inside, crate::proofs::Ways::var_not, crate::proofs::Ways::var_there_lem))]
+#[tactic(auto, using(crate::proofs::Ways::var_not, crate::proofs::Ways::var_there_lem))]
 pub fn var_at(s: &[u8], at: usize) -> Reading
     ensures { result ≡ words.var_at s.now at }
 {
-    if byte_at(s, at) == 118 {
-        plain_at(s, at + 1)
-    } else {
-        Err(at)
-    }
+    plain_at(s, byte_is(s, at, b'v')?)
 }
 
 // ---- what an expression begins with
@@ -228,10 +185,11 @@ fn operator_at(s: &[u8], at: usize) -> Reading
 pub fn arity(op: u32) -> usize
     ensures { result ≡ words.arity op }
 {
-    if op < 3 {
-        return 0;
+    match op {
+        0..=2 => 0,
+        3..=5 => 1,
+        _ => 2,
     }
-    if op < 6 { 1 } else { 2 }
 }
 
 // A head of what was read, which fits 32 bits.
@@ -239,40 +197,27 @@ fn head_of(op: u32, r: Reading) -> Head
     requires { words.value_of r < 4294967296 }
     ensures { result ≡ words.head_of op r }
 {
-    match r {
-        Ok((v, n)) => Ok((op, v as u32, n)),
-        Err(p) => Err(p),
-    }
+    let (v, n) = r?;
+    Ok((op, v as u32, n))
 }
 
 // An operator, and R after `val`.
-#[tactic(auto, using(crate::proofs::Laws::got, crate::proofs::Laws::inside, crate::proofs::Laws::operator_reads, crate::proofs::Laws::plain_reads, crate::proofs::Laws::value_most, crate::proofs::Ways::no_val, crate::proofs::Ways::val_row, crate::proofs::Ways::val_short))]
+#[tactic(auto, using(crate::proofs::Laws::got, crate::proofs::Laws::operator_reads, crate::proofs::Laws::plain_reads, crate::proofs::Laws::value_most, crate::proofs::Ways::no_val, crate::proofs::Ways::val_row, crate::proofs::Ways::val_short))]
 fn operator_head(s: &[u8], at: usize) -> Head
     ensures { result ≡ words.operator_head s.now (words.operator_at s.now at) }
 {
-    let w = operator_at(s, at);
-    match w {
-        Ok((op, n)) => {
-            if op != 5 {
-                return Ok((op as u32, 0, n));
-            }
-            if byte_at(s, n) != 32 {
-                return Err(n);
-            }
-            head_of(5, plain_at(s, n + 1))
-        }
-        Err(p) => Err(p),
+    let (op, n) = operator_at(s, at)?;
+    if op != 5 {
+        return Ok((op as u32, 0, n));
     }
+    head_of(5, plain_at(s, byte_is(s, n, b' ')?))
 }
 
 // Whether a variable begins: at `v`, but not at the `va` of `val`.
 fn begins_variable(s: &[u8], at: usize) -> bool
     ensures { result ≡ (eqb (words.byte_at s.now at) 118 && not (eqb (words.byte_at s.now (at + 1)) 97)) }
 {
-    if byte_at(s, at) != 118 {
-        return false;
-    }
-    byte_at(s, at + 1) != 97
+    byte_at(s, at) == 118 && byte_at(s, at + 1) != 97
 }
 
 // The first word of an expression. An operator is read at one place only: so it is compiled in place, and no head is copied.
