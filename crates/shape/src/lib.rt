@@ -8,88 +8,32 @@ ghost use Rattle.rules.specs.Text.Shape as shapes;
 use rules::{Head, Key, Next, Reading};
 use text::{arity, byte_at, byte_is, head_at, number_at, or_word, plain_at, var_at};
 
-// ---- one after the other
-
 // Where a reading ends.
 fn ended(r: Reading) -> Next
     ensures { result ≡ shapes.end r }
 {
-    match r {
-        Ok((_, n)) => Ok(n),
-        Err(p) => Err(p),
-    }
-}
-
-// The byte b after what was passed.
-fn mark_on(s: &[u8], x: Next, b: u8) -> Next
-    ensures { result ≡ shapes.over x (λ n. words.byte_is s.now n b) }
-{
-    match x {
-        Ok(n) => byte_is(s, n, b),
-        Err(p) => Err(p),
-    }
+    let (_, n) = r?;
+    Ok(n)
 }
 
 // ---- expressions
 
 // One turn a word; `need` counts the expressions that are still to come.
-#[tactic(auto, using(crate::proofs::Ways::arity_most, crate::proofs::Ways::no_words, crate::proofs::Ways::word_not, text::proofs::Laws::head_read, text::proofs::Laws::inside), unfolding(rules::specs::Text::Shape::expr_shape))]
+#[tactic(auto, using(crate::proofs::Ways::arity_most, crate::proofs::Ways::no_words, crate::proofs::Ways::word_bad, crate::proofs::Ways::word_ends, crate::proofs::Ways::word_not, crate::proofs::Ways::word_on), unfolding(rules::specs::Text::Shape::expr_shape))]
 fn expr_shape(s: &[u8], at: usize) -> Next
     ensures { result ≡ shapes.expr_shape s.now at }
 {
-    let mut left = s.len();
     let mut need = 1;
     let mut i = at;
-    while 0 < left {
-        left -= 1;
-        let h = head_at(s, i);
-        match h {
-            Err(p) => {
-                return Err(p);
-            }
-            Ok((op, _, n)) => {
-                need = need - 1 + arity(op);
-                if need == 0 {
-                    return Ok(n);
-                }
-                if byte_at(s, n) != 32 {
-                    return Err(n);
-                }
-                i = n + 1;
-            }
+    for _ in 0..s.len() {
+        let (op, _, n) = head_at(s, i)?;
+        need = need + arity(op) - 1;
+        if need == 0 {
+            return Ok(n);
         }
+        i = byte_is(s, n, b' ')?;
     }
     Err(i)
-}
-
-// An expression after what was passed.
-fn expr_on(s: &[u8], x: Next) -> Next
-    ensures { result ≡ shapes.over x (shapes.expr_shape s.now) }
-{
-    match x {
-        Ok(n) => expr_shape(s, n),
-        Err(p) => Err(p),
-    }
-}
-
-// A number after what was passed.
-fn number_on(s: &[u8], x: Next) -> Next
-    ensures { result ≡ shapes.over x (λ n. shapes.end (words.number_at s.now n)) }
-{
-    match x {
-        Ok(n) => ended(number_at(s, n)),
-        Err(p) => Err(p),
-    }
-}
-
-// A variable after what was passed.
-fn var_on(s: &[u8], x: Next) -> Next
-    ensures { result ≡ shapes.over x (λ n. shapes.end (words.var_at s.now n)) }
-{
-    match x {
-        Ok(n) => ended(var_at(s, n)),
-        Err(p) => Err(p),
-    }
 }
 
 // ---- the forms of the lines, after their key
@@ -107,29 +51,20 @@ pub fn kind_word(s: &[u8], at: usize) -> Reading
 fn kind_shape(s: &[u8], at: usize) -> Next
     ensures { result ≡ shapes.kind_shape s.now at }
 {
-    let w = kind_word(s, at);
-    match w {
-        Ok((k, n)) => {
-            if k == 0 {
-                return Ok(n);
-            }
-            ended(plain_at(s, n))
-        }
-        Err(p) => Err(p),
+    let (k, n) = kind_word(s, at)?;
+    if k == 0 {
+        return Ok(n);
     }
+    ended(plain_at(s, n))
 }
 
-#[tactic(auto, using(crate::proofs::Ways::next_mark), unfolding(rules::specs::Text::Shape::local_shape))]
+#[tactic(auto, unfolding(rules::specs::Text::Shape::local_shape))]
 fn local_shape(s: &[u8], at: usize) -> Next
     ensures { result ≡ shapes.local_shape s.now at }
 {
-    number_on(s, mark_on(s, kind_shape(s, at), b' '))
-}
-
-fn larger(a: usize, b: usize) -> usize
-    ensures { result ≡ max a b }
-{
-    if a < b { b } else { a }
+    let at = kind_shape(s, at)?;
+    let at = byte_is(s, at, b' ')?;
+    ended(number_at(s, at))
 }
 
 // The word found before, else the number and `more`.
@@ -137,17 +72,15 @@ fn or_number(found: Reading, number: Reading, more: u64) -> Reading
     requires { (words.value_of number ≤ 4294967295) × (more ≤ 2) }
     ensures { result ≡ shapes.or_raised more found number }
 {
-    match found {
-        Ok((k, n)) => Ok((k, n)),
-        Err(p) => match number {
-            Ok((v, n)) => Ok((v + more, n)),
-            Err(q) => Err(larger(p, q)),
-        },
-    }
+    let Err(p) = found else {
+        return found;
+    };
+    let (v, n) = number.map_err(|q| p.max(q))?;
+    Ok((v + more, n))
 }
 
 // `inf` is 1, a number n is n + 2.
-#[tactic(auto, unfolding(rules::specs::Text::Shape::psi_at, rules::specs::Text::Shape::inf_word))]
+#[tactic(auto, using(crate::proofs::Ways::plain_small), unfolding(rules::specs::Text::Shape::psi_at, rules::specs::Text::Shape::inf_word))]
 pub fn psi_at(s: &[u8], at: usize) -> Reading
     ensures { result ≡ shapes.psi_at s.now at }
 {
@@ -159,7 +92,7 @@ pub fn psi_at(s: &[u8], at: usize) -> Reading
 pub fn between(b: u64) -> bool
     ensures { result ≡ (eqb b 44 || eqb b 124) }
 {
-    if b == 44 { true } else { b == 124 }
+    b == 44 || b == 124
 }
 
 // One turn a field row.
@@ -167,22 +100,13 @@ pub fn between(b: u64) -> bool
 fn fields_shape(s: &[u8], at: usize) -> Next
     ensures { result ≡ shapes.fields_shape s.now (length s.now) at }
 {
-    let mut left = s.len();
     let mut i = at;
-    while 0 < left {
-        left -= 1;
-        let r = plain_at(s, i);
-        match r {
-            Err(q) => {
-                return Err(q);
-            }
-            Ok((_, n)) => {
-                if !between(byte_at(s, n)) {
-                    return Ok(n);
-                }
-                i = n + 1;
-            }
+    for _ in 0..s.len() {
+        let (_, n) = plain_at(s, i)?;
+        if !between(byte_at(s, n)) {
+            return Ok(n);
         }
+        i = n + 1;
     }
     Err(i)
 }
@@ -198,21 +122,13 @@ fn products_shape(s: &[u8], at: usize) -> Next
     }
 }
 
-// Products after what was passed.
-fn products_on(s: &[u8], x: Next) -> Next
-    ensures { result ≡ shapes.over x (shapes.products_shape s.now) }
-{
-    match x {
-        Ok(n) => products_shape(s, n),
-        Err(p) => Err(p),
-    }
-}
-
-#[tactic(auto, using(crate::proofs::Ways::read_mark), unfolding(rules::specs::Text::Shape::type_shape))]
+#[tactic(auto, unfolding(rules::specs::Text::Shape::type_shape))]
 fn type_shape(s: &[u8], at: usize) -> Next
     ensures { result ≡ shapes.type_shape s.now at }
 {
-    products_on(s, mark_on(s, ended(psi_at(s, at)), b':'))
+    let (_, at) = psi_at(s, at)?;
+    let at = byte_is(s, at, b':')?;
+    products_shape(s, at)
 }
 
 // `any` is 0, `box` 1, `imm` 2.
@@ -226,7 +142,7 @@ pub fn boxed_at(s: &[u8], at: usize) -> Reading
 }
 
 // `any` is 0, a number n is n + 1.
-#[tactic(auto, unfolding(rules::specs::Text::Shape::offset_at, rules::specs::Text::Shape::any_word))]
+#[tactic(auto, using(crate::proofs::Ways::plain_small), unfolding(rules::specs::Text::Shape::offset_at, rules::specs::Text::Shape::any_word))]
 pub fn offset_at(s: &[u8], at: usize) -> Reading
     ensures { result ≡ shapes.offset_at s.now at }
 {
@@ -235,7 +151,7 @@ pub fn offset_at(s: &[u8], at: usize) -> Reading
 }
 
 // `any` is 0, a number whose 32 bits are w is w + 1.
-#[tactic(auto, unfolding(rules::specs::Text::Shape::tag_at, rules::specs::Text::Shape::any_word))]
+#[tactic(auto, using(crate::proofs::Ways::number_small), unfolding(rules::specs::Text::Shape::tag_at, rules::specs::Text::Shape::any_word))]
 pub fn tag_at(s: &[u8], at: usize) -> Reading
     ensures { result ≡ shapes.tag_at s.now at }
 {
@@ -243,58 +159,29 @@ pub fn tag_at(s: &[u8], at: usize) -> Reading
     or_number(w, number_at(s, at), 1)
 }
 
-// I after what was passed.
-fn offset_on(s: &[u8], x: Next) -> Next
-    ensures { result ≡ shapes.over x (λ n. shapes.end (shapes.offset_at s.now n)) }
-{
-    match x {
-        Ok(n) => ended(offset_at(s, n)),
-        Err(p) => Err(p),
-    }
-}
-
-// T after what was passed.
-fn tag_on(s: &[u8], x: Next) -> Next
-    ensures { result ≡ shapes.over x (λ n. shapes.end (shapes.tag_at s.now n)) }
-{
-    match x {
-        Ok(n) => ended(tag_at(s, n)),
-        Err(p) => Err(p),
-    }
-}
-
-#[tactic(auto, using(crate::proofs::Ways::read_marks), unfolding(rules::specs::Text::Shape::entry_shape))]
+#[tactic(auto, unfolding(rules::specs::Text::Shape::entry_shape))]
 fn entry_shape(s: &[u8], at: usize) -> Next
     ensures { result ≡ shapes.entry_shape s.now at }
 {
-    let offset = offset_on(s, mark_on(s, ended(boxed_at(s, at)), b','));
-    tag_on(s, mark_on(s, offset, b','))
+    let (_, at) = boxed_at(s, at)?;
+    let at = byte_is(s, at, b',')?;
+    let (_, at) = offset_at(s, at)?;
+    let at = byte_is(s, at, b',')?;
+    ended(tag_at(s, at))
 }
 
 // One turn an entry.
-#[tactic(auto, using(crate::proofs::Ways::entry_bad, crate::proofs::Ways::entry_last, crate::proofs::Ways::entry_not, crate::proofs::Ways::entry_on, crate::proofs::Ways::no_entries, text::proofs::Laws::inside))]
+#[tactic(auto, using(crate::proofs::Ways::entry_bad, crate::proofs::Ways::entry_last, crate::proofs::Ways::entry_not, crate::proofs::Ways::entry_on, crate::proofs::Ways::no_entries))]
 fn label_shape(s: &[u8], vars: usize, at: usize) -> Next
     ensures { result ≡ shapes.label_shape s.now vars at }
 {
-    let mut more = vars;
     let mut i = at;
-    while 0 < more {
-        more -= 1;
-        let e = entry_shape(s, i);
-        match e {
-            Err(p) => {
-                return Err(p);
-            }
-            Ok(n) => {
-                if more == 0 {
-                    return Ok(n);
-                }
-                if byte_at(s, n) != 32 {
-                    return Err(n);
-                }
-                i = n + 1;
-            }
+    for v in 0..vars {
+        let n = entry_shape(s, i)?;
+        if v + 1 == vars {
+            return Ok(n);
         }
+        i = byte_is(s, n, b' ')?;
     }
     Ok(i)
 }
@@ -303,32 +190,39 @@ fn label_shape(s: &[u8], vars: usize, at: usize) -> Next
 fn then_expr(s: &[u8], r: Reading) -> Next
     ensures { result ≡ shapes.after r (shapes.space s.now (shapes.expr_shape s.now)) }
 {
-    expr_on(s, mark_on(s, ended(r), b' '))
+    let (_, at) = r?;
+    let at = byte_is(s, at, b' ')?;
+    expr_shape(s, at)
 }
 
 // `put=E N E`
-#[tactic(auto, using(crate::proofs::Ways::next_marks), unfolding(rules::specs::Text::Shape::line_shape))]
+#[tactic(auto, unfolding(rules::specs::Text::Shape::line_shape))]
 fn put_shape(s: &[u8], at: usize) -> Next
     ensures { result ≡ shapes.line_shape s.now 0 Key.Put at }
 {
-    let number = number_on(s, mark_on(s, expr_shape(s, at), b' '));
-    expr_on(s, mark_on(s, number, b' '))
+    let at = expr_shape(s, at)?;
+    let at = byte_is(s, at, b' ')?;
+    then_expr(s, number_at(s, at))
 }
 
 // `ifimm=L V`
-#[tactic(auto, using(crate::proofs::Ways::read_mark), unfolding(rules::specs::Text::Shape::line_shape))]
+#[tactic(auto, unfolding(rules::specs::Text::Shape::line_shape))]
 fn ifimm_shape(s: &[u8], at: usize) -> Next
     ensures { result ≡ shapes.line_shape s.now 0 Key.IfImm at }
 {
-    var_on(s, mark_on(s, ended(plain_at(s, at)), b' '))
+    let (_, at) = plain_at(s, at)?;
+    let at = byte_is(s, at, b' ')?;
+    ended(var_at(s, at))
 }
 
 // `iftag=L V N`, and `ifint=L V N`
-#[tactic(auto, using(crate::proofs::Ways::read_mark, crate::proofs::Ways::read_marks), unfolding(rules::specs::Text::Shape::line_shape))]
+#[tactic(auto, unfolding(rules::specs::Text::Shape::line_shape))]
 fn iftag_shape(s: &[u8], at: usize) -> Next
     ensures { result ≡ shapes.line_shape s.now 0 Key.IfTag at }
 {
-    number_on(s, mark_on(s, ifimm_shape(s, at), b' '))
+    let at = ifimm_shape(s, at)?;
+    let at = byte_is(s, at, b' ')?;
+    ended(number_at(s, at))
 }
 
 // ---- a line by its key
@@ -393,10 +287,11 @@ pub fn key_of(k: u64) -> Key
 pub fn part_of(k: u64) -> u32
     ensures { result ≡ shapes.part_of k }
 {
-    if k < 3 {
-        return 1;
+    match k {
+        0..=2 => 1,
+        3..=4 => 2,
+        _ => 3,
     }
-    if k < 5 { 2 } else { 3 }
 }
 
 // Whether a line with the key k may come after the part.
@@ -407,31 +302,26 @@ pub fn in_order(part: u32, k: u64) -> bool
     if k == 1 {
         return part == 0;
     }
-    if part == 0 {
-        return false;
-    }
-    part <= part_of(k)
+    0 < part && part <= part_of(k)
 }
 
 // What stands after the key of number k, where there are `vars` variables.
-#[tactic(auto, using(crate::proofs::Ways::no_key_lem), unfolding(rules::specs::Text::Shape::line_shape, rules::specs::Text::Shape::key_of))]
+#[tactic(auto, unfolding(rules::specs::Text::Shape::line_shape))]
 pub fn line_shape(s: &[u8], vars: usize, k: u64, at: usize) -> Next
     ensures { result ≡ shapes.line_shape s.now vars (shapes.key_of k) at }
 {
-    match k {
-        1 => kind_shape(s, at),
-        2 => type_shape(s, at),
-        3 => kind_shape(s, at),
-        4 => local_shape(s, at),
-        5 => then_expr(s, var_at(s, at)),
-        6 => put_shape(s, at),
-        7 => ended(plain_at(s, at)),
-        8 => then_expr(s, plain_at(s, at)),
-        9 => ifimm_shape(s, at),
-        10 => iftag_shape(s, at),
-        11 => iftag_shape(s, at),
-        12 => expr_shape(s, at),
-        13 => label_shape(s, vars, at),
-        _ => Err(at),
+    match key_of(k) {
+        Key::Absent => Err(at),
+        Key::Ret | Key::Param => kind_shape(s, at),
+        Key::Type => type_shape(s, at),
+        Key::Local => local_shape(s, at),
+        Key::Set => then_expr(s, var_at(s, at)),
+        Key::Put => put_shape(s, at),
+        Key::Goto => ended(plain_at(s, at)),
+        Key::If => then_expr(s, plain_at(s, at)),
+        Key::IfImm => ifimm_shape(s, at),
+        Key::IfTag | Key::IfInt => iftag_shape(s, at),
+        Key::Return => expr_shape(s, at),
+        Key::Label => label_shape(s, vars, at),
     }
 }
