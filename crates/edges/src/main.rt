@@ -32,11 +32,9 @@ fn both(s: &[u8], shown: &[u8]) {
 
 // A text that ends with a line feed.
 fn show(s: &[u8]) {
-    if s.len() == 0 {
-        return;
+    if let Some((_, shown)) = s.split_last() {
+        both(s, shown);
     }
-    let end = s.len() - 1;
-    both(s, &s[..end]);
 }
 
 fn limits() {

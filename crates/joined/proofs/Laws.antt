@@ -4,17 +4,18 @@ use native.Mathlib.Numerals.{add-one}
 use lib.ListN.{drop_of_length-le}
 use lib.Seq.{drop-cons}
 use Rattle.std.specs.Prelude.{◌+◌, ◌<◌, ◌≤◌, ◌&&◌, ◌∷◌, ◌≡◌, Err}
+use Rattle.std.specs.Result.{is_ok}
 use Rattle.rules.specs.Prelude.{ℕ, suc, Bool, true, false, List, [], refl, sym, ◌∙◌, eqb, length, get_or, drop}
 use Rattle.rules.specs.Bytes.{bytes}
-use Rattle.rules.specs.Text.Words.{value_of, agreed, or_word}
+use Rattle.rules.specs.Text.Words.{agreed, or_word}
 use Rattle.rules.specs.Run.{glue_bytes}
 
--- the word is read as 1 exactly where all of it stands
-pub run_there : (s : List ℕ) (at : ℕ) → eqb (value_of (or_word s at (bytes "run=") 1 (Err at))) 1 ≡ eqb (agreed (bytes "run=") (drop at s)) 4
+-- the word is read exactly where all of it stands
+pub run_there : (s : List ℕ) (at : ℕ) → is_ok (or_word s at (bytes "run=") 1 (Err at)) ≡ eqb (agreed (bytes "run=") (drop at s)) 4
 unfolding or_word
 run_there s at = go (eqb (agreed (bytes "run=") (drop at s)) 4) refl
   where
-    go : (t : Bool) → eqb (agreed (bytes "run=") (drop at s)) 4 ≡ t → eqb (value_of (or_word s at (bytes "run=") 1 (Err at))) 1 ≡ t
+    go : (t : Bool) → eqb (agreed (bytes "run=") (drop at s)) 4 ≡ t → is_ok (or_word s at (bytes "run=") 1 (Err at)) ≡ t
     go true q = rw q
     go false q = rw q
 
