@@ -2,29 +2,34 @@
 use native.Mathlib.Omega.{arith as lin}
 use Rattle.rules.specs.declared.Form.{Form}
 use Rattle.rules.specs.declared.Way.{Way}
+use Rattle.rules.specs.declared.Op.{Op}
 use Rattle.rules.specs.declared.Form.TheVariants as M
 use Rattle.rules.specs.declared.Way.TheVariants as W
 use native.Mathlib.Decide.{dec_lt}
+use mathlib.Core.Logic.{◌⊎◌, inl, inr}
 use mathlib.Core.Path.{ap₂}
 use lib.ListN.{get_or-eq_default, get_or-map, length-map}
-use borrow.Author.Tests.{ne_eqb}
-use Rattle.std.specs.Prelude.{◌+◌, ◌-◌, ◌/◌, ◌%◌, ◌<◌, ◌≤◌, ◌&&◌, ◌∷◌, ◌++◌, ◌≡◌}
+use borrow.Author.Tests.{ne_eqb, eqb-true, eqb-false}
+use Rattle.std.specs.Option.{is_some}
+use Rattle.std.specs.Prelude.{◌+◌, ◌-◌, ◌/◌, ◌%◌, ◌<◌, ◌≤◌, ◌&&◌, ◌∷◌, ◌++◌, ◌≡◌, Option, Some, None, Result, Ok, Err}
 use Rattle.rules.specs.Prelude.{ℕ, zero, suc, Bool, true, false, List, [], map, refl, sym, ap, ◌∙◌, not, eqb, length, get_or, drop}
 use Rattle.rules.specs.declared.Answer.{Answer}
 use Rattle.rules.specs.Numbers.{num_code}
-use Rattle.rules.specs.Answers.{answer, and_then, first}
+use Rattle.rules.specs.Answers.{answer, passes, and_then, outcome, first}
+use Rattle.rules.specs.When.{One}
 use Rattle.rules.specs.Environments.{no_var}
 use Rattle.rules.specs.Program.{Prog, Var, Expr, Stmt, bad_s, set_s, put_s, goto_s, if_s, ifimm_s, iftag_s, ifint_s, return_s, row_there, kind_at, label_at, no_entry}
 use Rattle.rules.specs.View.{tab, vars_from, labels_from, label_from, entry_from, Walked, walked, form_of, tree_at, way_of, tree_of, with_one, with_two, stmt_of, stmt_from, body_from}
-use Rattle.rules.specs.Names.{expr_there, fields_there, products_there, entry_suits, entries_suit, name_kind, name_row, name_var}
+use Rattle.rules.specs.Names.{expr_there, fields_there, products_there, entry_suits, entries_suit, label_suits, name_kind, name_row, name_var}
 use Rattle.rules.proofs.Laws.Lists.{tab_length, tab_in}
-use Rattle.table.proofs.Passes.{left_more, left_none, then_on, then_no, first_append}
+use Rattle.table.proofs.Passes.{left_more, left_none, then_on, then_no, first_append, lines_done, lines_on, lines_no}
 use Rattle.program.specs.declared.Stored.{Stored}
 use Rattle.program.specs.Lines.{stored_at}
 use Rattle.program.proofs.Laws.{vars_small, label_in, label_out, line_in_lem, line_view}
 use Rattle.program.specs.Nodes.{arity, after_of}
 use Rattle.program.proofs.Walk.{Folds, ends_deep, ends_past, ends_leaf, ends_one, ends_two}
-use Rattle.names.specs.Walk.{form_there, more_if, there_at}
+use Rattle.names.specs.Walk.{form_there, some_if, there_at}
+use Rattle.names.specs.Passed.{passed, on_line}
 use Rattle.names.specs.Trees.{line_named, names_in}
 
 -- ---- a test of all
@@ -71,31 +76,72 @@ module _ (Z D L : List ℕ) (l v n m : ℕ) (en : n ≡ length (vars_from Z D)) 
   unfolding entries_suit
   suits_done h = rw (left_none (vars_from Z D) v n en h)
 
+-- ---- line by line
+
+-- a line's number and its line are an answer
+said_is : (n line : ℕ) → on_line line (passed n) ≡ outcome (answer n line)
+said_is zero line = refl
+said_is (suc n) line = rw (ne_eqb (suc n) 0 (λ q. omega (lin, q)))
+
+-- an answer, by whether the code goes on
+accepts : (a : Answer) → Ok tt ≡ outcome a → a.number ≡ 0
+accepts a e = by (passes a) refl
+  where
+    by : (t : Bool) → passes a ≡ t → a.number ≡ 0
+    by true q = eqb-true a.number 0 q
+    by false q = let z = rw q at e in absurd (grind lin)
+
+refuses : (a : Answer) {b : Answer} → Err b ≡ outcome a → (a.number ≡ 0 → ⊥) × (outcome a ≡ Err a)
+refuses a {b} e = by (passes a) refl
+  where
+    by : (t : Bool) → passes a ≡ t → (a.number ≡ 0 → ⊥) × (outcome a ≡ Err a)
+    by true q = let z = rw q at e in absurd (grind lin)
+    by false q = (eqb-false a.number 0 q, rw q)
+
+module _ {A : Type 0} (f : A → ℕ) (l : List A) (line i n : ℕ) (en : n ≡ length l) where
+  pub lines_end : n ≤ i → Ok tt ≡ outcome (first (line + i) (map f (drop i l)))
+  lines_end h = ap outcome (lines_done f l line i n en h)
+
+  module _ (d : A) (h : i < n) where
+    pub line_on : Ok tt ≡ on_line (line + i) (passed (f (get_or l i d))) → first (line + (i + 1)) (map f (drop (i + 1) l)) ≡ first (line + i) (map f (drop i l))
+    line_on e = lines_on f l line i n en d _ h refl (accepts _ (e ∙ said_is _ _))
+
+    pub line_no : {a : Answer} → Err a ≡ on_line (line + i) (passed (f (get_or l i d))) → Err a ≡ outcome (first (line + i) (map f (drop i l)))
+    line_no e = let w = e ∙ said_is _ _ in w ∙ ap outcome (lines_no f l line i n en d _ h refl (refuses _ w).0)
+
 -- ---- part by part
 
+-- a part that refuses nothing leaves the answer to the next
+outcome_on : (a : Answer) (later : One → Answer) → Ok tt ≡ outcome a → and_then a later ≡ later tt
+outcome_on a later e = then_on a later (accepts a e)
+
+outcome_no : (a : Answer) (later : One → Answer) {b : Answer} → Err b ≡ outcome a → Err b ≡ outcome (and_then a later)
+outcome_no a later e = e ∙ ap outcome (then_no a later (refuses a e).0)
+
 -- the answers of the parts, one after the other: `ret`, the rows, the variables, the body
-module _ (trees : Bool) (P : Prog) (top : ℕ) (et : top ≡ name_kind P P.ret) where
-  pub names_top : (top ≡ 0 → ⊥) → answer top 1 ≡ names_in trees P
+module _ (trees : Bool) (P : Prog) where
+  pub names_top : {a : Answer} → Err a ≡ on_line 1 (passed (name_kind P P.ret)) → Err a ≡ outcome (names_in trees P)
   unfolding names_in first
-  names_top z = rw (sym et, ne_eqb top 0 z)
+  names_top e = let w = e ∙ said_is _ _ in rw (ne_eqb (name_kind P P.ret) 0 (refuses _ w).0) w
 
-  module _ (zt : top ≡ 0) (a : Answer) (ea : a ≡ first 2 (map (name_row P) P.rows)) where
-    from_rows : names_in trees P ≡ and_then a (λ _. first (2 + length P.rows) (map (name_var P) P.vars ++ map (line_named trees P) P.body))
+  module _ (zt : Ok tt ≡ on_line 1 (passed (name_kind P P.ret))) where
+    from_rows : names_in trees P ≡ and_then (first 2 (map (name_row P) P.rows)) (λ _. first (2 + length P.rows) (map (name_var P) P.vars ++ map (line_named trees P) P.body))
     unfolding names_in first
-    from_rows = rw (sym et, zt, ea, sym (length-map P.rows (name_row P))) (first_append 2 (map (name_row P) P.rows) (map (name_var P) P.vars ++ map (line_named trees P) P.body))
+    from_rows = rw (accepts _ (zt ∙ said_is _ _), sym (length-map P.rows (name_row P))) (first_append 2 (map (name_row P) P.rows) (map (name_var P) P.vars ++ map (line_named trees P) P.body))
 
-    pub names_rows : (a.number ≡ 0 → ⊥) → a ≡ names_in trees P
-    names_rows z = rw from_rows (then_no a _ z)
+    pub names_rows : {a : Answer} → Err a ≡ outcome (first 2 (map (name_row P) P.rows)) → Err a ≡ outcome (names_in trees P)
+    names_rows e = outcome_no _ _ e ∙ ap outcome (sym from_rows)
 
-    module _ (za : a.number ≡ 0) (k : ℕ) (ek : k ≡ length P.rows) (b : Answer) (eb : b ≡ first (2 + k) (map (name_var P) P.vars)) where
-      from_vars : names_in trees P ≡ and_then b (λ _. first (2 + k + length P.vars) (map (line_named trees P) P.body))
-      from_vars = from_rows ∙ then_on a _ za ∙ rw (sym ek, eb, sym (length-map P.vars (name_var P))) (first_append (2 + k) (map (name_var P) P.vars) (map (line_named trees P) P.body))
+    module _ (za : Ok tt ≡ outcome (first 2 (map (name_row P) P.rows))) (k : ℕ) (ek : k ≡ length P.rows) where
+      from_vars : names_in trees P ≡ and_then (first (2 + k) (map (name_var P) P.vars)) (λ _. first (2 + k + length P.vars) (map (line_named trees P) P.body))
+      from_vars = from_rows ∙ outcome_on _ _ za ∙ rw (sym ek, sym (length-map P.vars (name_var P))) (first_append (2 + k) (map (name_var P) P.vars) (map (line_named trees P) P.body))
 
-      pub names_vars : (b.number ≡ 0 → ⊥) → b ≡ names_in trees P
-      names_vars z = rw from_vars (then_no b _ z)
+      pub names_vars : {a : Answer} → Err a ≡ outcome (first (2 + k) (map (name_var P) P.vars)) → Err a ≡ outcome (names_in trees P)
+      names_vars e = outcome_no _ _ e ∙ ap outcome (sym from_vars)
 
-      pub names_body : b.number ≡ 0 → (j : ℕ) → j ≡ length P.vars → (r : Answer) → r ≡ first (2 + k + j) (map (line_named trees P) P.body) → r ≡ names_in trees P
-      names_body z j ej r er = rw (from_vars, then_on b _ z, sym ej) er
+      pub names_body : Ok tt ≡ outcome (first (2 + k) (map (name_var P) P.vars)) → (j : ℕ) → j ≡ length P.vars → {r : Result Unit Answer}
+          → r ≡ outcome (first (2 + k + j) (map (line_named trees P) P.body)) → r ≡ outcome (names_in trees P)
+      names_body e j ej er = er ∙ ap outcome (rw ej (sym (from_vars ∙ outcome_on _ _ e)))
 
 -- ---- the walk
 
@@ -121,150 +167,103 @@ two_form P M.Val a x y z i = absurd (i refl)
 two_form P M.Step a x y z i = refl
 two_form P (M.Calc o) a x y z i = refl
 
--- the number tells both
-none_there : (b : Bool) (n : ℕ) → more_if b n ≡ 0 → b ≡ false
-none_there true n e = absurd (omega (lin, e))
+pub two_operands : {f : Form} → (f ≡ M.Step) ⊎ ((o : Op) × (f ≡ M.Calc o)) → (arity f ≡ 0 → ⊥) × (arity f ≡ 1 → ⊥)
+two_operands {f} (inl e) = ((λ q. omega (lin, sym (ap arity e) ∙ q)), λ q. omega (lin, sym (ap arity e) ∙ q))
+two_operands {f} (inr (o, e)) = ((λ q. omega (lin, sym (ap arity e) ∙ q)), λ q. omega (lin, sym (ap arity e) ∙ q))
+
+-- whether there is a node after it tells whether what it names exists
+none_there : (b : Bool) (n : ℕ) → None ≡ some_if b n → b ≡ false
+none_there true n e = absurd (grind lin)
 none_there false n e = refl
 
-some_there : (b : Bool) (n : ℕ) → (more_if b n ≡ 0 → ⊥) → (b ≡ true) × (more_if b n - 1 ≡ n)
-some_there true n e = (refl, omega lin)
-some_there false n e = absurd (e refl)
+some_there : (b : Bool) (n : ℕ) {m : ℕ} → Some m ≡ some_if b n → (b ≡ true) × (m ≡ n)
+some_there true n e = (refl, grind lin)
+some_there false n e = absurd (grind lin)
 
-module _ (P : Prog) (N : List ℕ) (d k r : ℕ) (e : r ≡ there_at P N d k) where
-  pub tree_not : r ≡ 0 → expr_there P (tree_of (tree_at N d k)) ≡ false
+module _ (P : Prog) (N : List ℕ) (d k : ℕ) where
+  pub tree_not : None ≡ there_at P N d k → expr_there P (tree_of (tree_at N d k)) ≡ false
   unfolding there_at
-  tree_not z = none_there _ _ (sym e ∙ z)
+  tree_not e = none_there _ _ e
 
-  pub tree_is : (r ≡ 0 → ⊥) → (expr_there P (tree_of (tree_at N d k)) ≡ true) × (r - 1 ≡ after_of (tree_at N d k))
+  pub tree_is : {m : ℕ} → Some m ≡ there_at P N d k → (expr_there P (tree_of (tree_at N d k)) ≡ true) × (m ≡ after_of (tree_at N d k))
   unfolding there_at
-  tree_is z = rw e (some_there _ _ (λ q. z (e ∙ q)))
+  tree_is e = some_there _ _ e
 
   -- as a test
-  pub tree_test : not (eqb r 0) ≡ expr_there P (tree_of (tree_at N d k))
+  pub tree_test : is_some (there_at P N d k) ≡ expr_there P (tree_of (tree_at N d k))
   unfolding there_at
-  tree_test = rw e (by (expr_there P (tree_of (tree_at N d k))))
+  tree_test = by (expr_there P (tree_of (tree_at N d k)))
     where
-      by : (b : Bool) → not (eqb (more_if b (after_of (tree_at N d k))) 0) ≡ b
-      by true = rw (ne_eqb (after_of (tree_at N d k) + 1) 0 (λ q. omega (lin, q)))
+      by : (b : Bool) → is_some (some_if b (after_of (tree_at N d k))) ≡ b
+      by true = refl
       by false = refl
 
 module _ (P : Prog) (N : List ℕ) (d k : ℕ) where
-  pub at_zero : d ≡ 0 → 0 ≡ there_at P N d k
+  pub at_zero : d ≡ 0 → None ≡ there_at P N d k
   unfolding there_at expr_there
-  at_zero e = ends_deep (expr_there P) more_if N d k e
+  at_zero e = ends_deep (expr_there P) some_if N d k e
 
-  pub at_past : (d ≡ 0 → ⊥) → 4096 ≤ k → 0 ≡ there_at P N d k
+  pub at_past : (d ≡ 0 → ⊥) → 4096 ≤ k → None ≡ there_at P N d k
   unfolding there_at expr_there
-  at_past z h = ends_past (expr_there P) more_if N d k z h
+  at_past z h = ends_past (expr_there P) some_if N d k z h
 
-  -- the ways in which a walk goes on: what it read, and what it called, is the tree's
-  module _ (op a n : ℕ) (z : d ≡ 0 → ⊥) (h : k < 4096) (eo : op ≡ get_or N k 0 / 4294967296) (ea : a ≡ get_or N k 0 % 4294967296) (en : n ≡ arity (form_of op)) where
-    pub leaf_is : (b : Bool) → n ≡ 0 → ((x y : Bool) → b ≡ form_there P (form_of op) a x y) → more_if b (k + 1) ≡ there_at P N d k
+  -- the ways in which a walk goes on, by the form that it read
+  module _ (z : d ≡ 0 → ⊥) (h : k < 4096) {op a : ℕ} (eo : op ≡ get_or N k 0 / 4294967296) (ea : a ≡ get_or N k 0 % 4294967296) {f : Form} (ef : f ≡ form_of op) where
+    pub leaf_is : (b : Bool) → arity f ≡ 0 → b ≡ form_there P f a true true → some_if b (k + 1) ≡ there_at P N d k
     unfolding there_at
-    leaf_is b q e = ends_leaf (expr_there P) more_if N d k (form_there P) (folds P) op a n z h eo ea en b true true q (e true true)
+    leaf_is b q e = ends_leaf (expr_there P) some_if N d k (form_there P) (folds P) op a 0 z h eo ea (sym q ∙ ap arity ef) b true true refl (rw ef at e)
 
-    module _ (x : ℕ) (ex : x ≡ there_at P N (d - 1) (k + 1)) where
-      abbrev here : Bool
-      here = expr_there P (tree_of (tree_at N (d - 1) (k + 1)))
+    abbrev here : Bool
+    here = expr_there P (tree_of (tree_at N (d - 1) (k + 1)))
 
-      abbrev next : ℕ
-      next = after_of (tree_at N (d - 1) (k + 1))
+    abbrev next : ℕ
+    next = after_of (tree_at N (d - 1) (k + 1))
 
-      with_one_lem : (j : Bool) → n ≡ 1 → j ≡ form_there P (form_of op) a here true → more_if j next ≡ there_at P N d k
-      unfolding there_at
-      with_one_lem j q e = ends_one (expr_there P) more_if N d k (form_there P) (folds P) op a n z h eo ea en j here true next q refl refl e
+    with_one_lem : (j : Bool) → arity f ≡ 1 → j ≡ form_there P f a here true → some_if j next ≡ there_at P N d k
+    unfolding there_at
+    with_one_lem j q e = ends_one (expr_there P) some_if N d k (form_there P) (folds P) op a 1 z h eo ea (sym q ∙ ap arity ef) j here true next refl refl refl (rw ef at e)
 
-      pub one_is : n ≡ 1 → ((x y : Bool) → x ≡ form_there P (form_of op) a x y) → x ≡ there_at P N d k
-      unfolding there_at
-      one_is q e = ex ∙ with_one_lem here q (e here true)
+    pub one_not : arity f ≡ 1 → false ≡ form_there P f a here true → None ≡ there_at P N d k
+    one_not q e = with_one_lem false q e
 
-      pub one_not : n ≡ 1 → ((x y : Bool) → false ≡ form_there P (form_of op) a x y) → 0 ≡ there_at P N d k
-      one_not q e = with_one_lem false q (e here true)
+    pub one_is : {x : Option ℕ} → arity f ≡ 1 → here ≡ form_there P f a here true → x ≡ there_at P N (d - 1) (k + 1) → x ≡ there_at P N d k
+    unfolding there_at
+    one_is q e ex = ex ∙ with_one_lem here q e
 
-      module _ (z₀ : n ≡ 0 → ⊥) (z₁ : n ≡ 1 → ⊥) where
-        with_two_lem : (i : ℕ) → i ≡ next → (j : Bool) → j ≡ (here && expr_there P (tree_of (tree_at N (d - 1) i))) → more_if j (after_of (tree_at N (d - 1) i)) ≡ there_at P N d k
-        unfolding there_at
-        with_two_lem i q j e =
-            ends_two (expr_there P) more_if N d k (form_there P) (folds P) op a n z h eo ea en j here (expr_there P (tree_of (tree_at N (d - 1) i))) i (after_of (tree_at N (d - 1) i)) z₀ z₁ refl q refl refl
-            (e ∙ sym (two_form P (form_of op) a here _ (λ p. z₀ (en ∙ p)) (λ p. z₁ (en ∙ p))))
+    with_two_lem : (i : ℕ) → i ≡ next → (j : Bool) → (arity f ≡ 0 → ⊥) → (arity f ≡ 1 → ⊥) → j ≡ (here && expr_there P (tree_of (tree_at N (d - 1) i))) → some_if j (after_of (tree_at N (d - 1) i)) ≡ there_at P N d k
+    unfolding there_at
+    with_two_lem i q j z₀ z₁ e =
+        ends_two (expr_there P) some_if N d k (form_there P) (folds P) op a (arity f) z h eo ea (ap arity ef) j here (expr_there P (tree_of (tree_at N (d - 1) i))) i (after_of (tree_at N (d - 1) i)) z₀ z₁ refl q refl refl
+        (rw ef at (e ∙ sym (two_form P f a here _ z₀ z₁)))
 
-        pub two_none : x ≡ 0 → 0 ≡ there_at P N d k
-        two_none q = with_two_lem next refl false (rw (tree_not P N (d - 1) (k + 1) x ex q) refl)
+    pub two_none : (arity f ≡ 0 → ⊥) → (arity f ≡ 1 → ⊥) → None ≡ there_at P N (d - 1) (k + 1) → None ≡ there_at P N d k
+    two_none z₀ z₁ e = with_two_lem next refl false z₀ z₁ (rw (tree_not P N (d - 1) (k + 1) e) refl)
 
-        pub two_some : (x ≡ 0 → ⊥) → (y : ℕ) → y ≡ there_at P N (d - 1) (x - 1) → y ≡ there_at P N d k
-        unfolding there_at
-        two_some q y e = let w = tree_is P N (d - 1) (k + 1) x ex q in e ∙ with_two_lem (x - 1) w.1 (expr_there P (tree_of (tree_at N (d - 1) (x - 1)))) (rw w.0 refl)
-
--- ---- numbers that are no key of a list
-
-beyond_by : {A : Type 0} (d : A) (l : List A) (k : ℕ) → Dec (k < suc (length l)) → (k < suc (length l) → k ≡ 0) → get_or (d ∷ l) k d ≡ d
-beyond_by d l k (yes h) z = rw (z h)
-beyond_by d l k (no h) z = get_or-eq_default (d ∷ l) d {n = k} (omega (lin, h))
-
-beyond : {A : Type 0} (d : A) (l : List A) (k : ℕ) → (k < suc (length l) → k ≡ 0) → get_or (d ∷ l) k d ≡ d
-beyond d l k z = beyond_by d l k (dec_lt k (suc (length l))) z
-
--- what a `match` with the keys 1 to n leaves
-abbrev Others : ℕ → ℕ → Type 0
-Others zero k = Unit
-Others (suc n) k = Others n k × (k ≡ suc n → ⊥)
-
-others : (n k : ℕ) → Others n k → k < suc n → k ≡ 0
-others zero k o h = omega lin
-others (suc n) k o h = others n k o.0 (omega (lin, o.1))
-
-pub way_none : (k : ℕ) → Others 9 k → way_of k ≡ W.Absent
-unfolding way_of
-way_none k o = let z = others 9 k o in rw beyond
+    pub two_some : {m : ℕ} → (arity f ≡ 0 → ⊥) → (arity f ≡ 1 → ⊥) → Some m ≡ there_at P N (d - 1) (k + 1) → {y : Option ℕ} → y ≡ there_at P N (d - 1) m → y ≡ there_at P N d k
+    unfolding there_at
+    two_some {m} z₀ z₁ e ey = let w = tree_is P N (d - 1) (k + 1) e in ey ∙ with_two_lem m w.1 (expr_there P (tree_of (tree_at N (d - 1) m))) z₀ z₁ (rw w.0 refl)
 
 -- ---- a line that is no label
 
-kind_of : Way → ℕ
-kind_of W.Absent = 0
-kind_of W.Set = 1
-kind_of W.Put = 2
-kind_of W.Goto = 3
-kind_of W.If = 4
-kind_of W.IfImm = 5
-kind_of W.IfTag = 6
-kind_of W.IfInt = 7
-kind_of W.Return = 8
-kind_of W.Label = 9
+module _ (P : Prog) (N : List ℕ) (l v w k : ℕ) where
+  one_by : (f : Expr → Stmt) → ((x : Expr) → label_suits P (f x) ≡ true) → (t : Walked) → true ≡ label_suits P (with_one f t)
+  one_by f h (walked x n) = sym (h x)
 
-kinds : (k : ℕ) → kind_of (way_of k) ≡ get_or (tab 10 (λ i. i)) k 0
-unfolding way_of tab kind_of
-kinds k = sym (get_or-map kind_of (W.Absent ∷ W.Set ∷ W.Put ∷ W.Goto ∷ W.If ∷ W.IfImm ∷ W.IfTag ∷ W.IfInt ∷ W.Return ∷ W.Label ∷ []) k W.Absent)
+  two_by : (f : Expr → Expr → Stmt) → ((x y : Expr) → label_suits P (f x y) ≡ true) → (t : Walked) → true ≡ label_suits P (with_two N f t)
+  two_by f h (walked x n) = sym (h x _)
 
-label_by : (k : ℕ) → Dec (k < 10) → way_of k ≡ W.Label → k ≡ 9
-unfolding kind_of
-label_by k (yes h) e = sym (tab_in 10 (λ i. i) k 0 h) ∙ sym (kinds k) ∙ ap kind_of e
-label_by k (no h) e = let z : ◌≡◌ {A = ℕ} 9 0 = sym (ap kind_of e) ∙ kinds k ∙ get_or-eq_default (tab 10 (λ i. i)) 0 {n = k} (rw (tab_length 10 (λ i. i)) (omega (lin, h))) in absurd (omega lin)
-
-module _ (q : Stmt → Bool) (b : Bool) (N : List ℕ) where
-  one_by : (f : Expr → Stmt) → ((x : Expr) → q (f x) ≡ b) → (w : Walked) → q (with_one f w) ≡ b
-  one_by f h (walked x n) = h x
-
-  two_by : (f : Expr → Expr → Stmt) → ((x y : Expr) → q (f x y) ≡ b) → (w : Walked) → q (with_two N f w) ≡ b
-  two_by f h (walked x n) = h x _
-
-  module _ (l v w k : ℕ) (absent : q bad_s ≡ b) (set : (x : Expr) → q (set_s v x) ≡ b) (put : (x y : Expr) → q (put_s x (num_code w) y) ≡ b) (goto : q (goto_s l) ≡ b)
-      (if : (x : Expr) → q (if_s l x) ≡ b) (ifimm : q (ifimm_s l v) ≡ b) (iftag : q (iftag_s l v (num_code w)) ≡ b) (ifint : q (ifint_s l v (num_code w)) ≡ b)
-      (return : (x : Expr) → q (return_s x) ≡ b) where
-    no_label : (way : Way) → (way ≡ W.Label → ⊥) → q (stmt_of N way l v w k) ≡ b
-    unfolding stmt_of
-    no_label W.Absent h = absent
-    no_label W.Set h = one_by (set_s v) set (tree_at N 16 k)
-    no_label W.Put h = two_by (λ x y. put_s x (num_code w) y) put (tree_at N 16 k)
-    no_label W.Goto h = goto
-    no_label W.If h = one_by (if_s l) if (tree_at N 16 k)
-    no_label W.IfImm h = ifimm
-    no_label W.IfTag h = iftag
-    no_label W.IfInt h = ifint
-    no_label W.Return h = one_by return_s return (tree_at N 16 k)
-    no_label W.Label h = absurd (h refl)
-
-    pub other_line : (kind : ℕ) → (kind ≡ 9 → ⊥) → q (stmt_of N (way_of kind) l v w k) ≡ b
-    other_line kind h = no_label (way_of kind) (λ e. h (label_by kind (dec_lt kind 10) e))
+  pub other_line : (way : Way) → (way ≡ W.Label → ⊥) → true ≡ label_suits P (stmt_of N way l v w k)
+  unfolding stmt_of
+  other_line W.Absent h = refl
+  other_line W.Set h = one_by (set_s v) (λ x. refl) (tree_at N 16 k)
+  other_line W.Put h = two_by (λ x y. put_s x (num_code w) y) (λ x y. refl) (tree_at N 16 k)
+  other_line W.Goto h = refl
+  other_line W.If h = one_by (if_s l) (λ x. refl) (tree_at N 16 k)
+  other_line W.IfImm h = refl
+  other_line W.IfTag h = refl
+  other_line W.IfInt h = refl
+  other_line W.Return h = one_by return_s (λ x. refl) (tree_at N 16 k)
+  other_line W.Label h = absurd (h refl)
 
 -- ---- a line and its parts
 

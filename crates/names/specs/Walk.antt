@@ -1,5 +1,5 @@
--- Whether a tree names only what exists, form by form, and with the node after it as one number. Assumes nothing.
-use Rattle.std.specs.Prelude.{◌+◌, ◌&&◌}
+-- Whether a tree names only what exists, form by form, and the node after a tree that does. Assumes nothing.
+use Rattle.std.specs.Prelude.{◌&&◌, Option, Some, None}
 use Rattle.rules.specs.declared.Form.{Form}
 use Rattle.rules.specs.declared.Form.TheVariants as M
 use Rattle.rules.specs.Prelude.{ℕ, Bool, true, false, List}
@@ -19,10 +19,10 @@ form_there P M.Val a x y = row_there P.rows a && x
 form_there P M.Step a x y = x && y
 form_there P (M.Calc o) a x y = x && y
 
--- one more than the node after a tree, and 0 where what it names does not exist
-abbrev pub more_if : Bool → ℕ → ℕ
-more_if true n = n + 1
-more_if false n = 0
+-- the node after a tree, and nothing where what the tree names does not exist
+abbrev pub some_if : Bool → ℕ → Option ℕ
+some_if true n = Some n
+some_if false n = None
 
-unfoldable pub there_at : Prog → List ℕ → ℕ → ℕ → ℕ
-there_at P N d k = more_if (expr_there P (tree_of (tree_at N d k))) (after_of (tree_at N d k))
+unfoldable pub there_at : Prog → List ℕ → ℕ → ℕ → Option ℕ
+there_at P N d k = some_if (expr_there P (tree_of (tree_at N d k))) (after_of (tree_at N d k))

@@ -2,31 +2,19 @@
 // A function that needs few of the tables says what holds of the program for all the others.
 #![tactic(auto)]
 
-ghost use Rattle.std.specs.Prelude.{◌≡◌, Bool, ◌&&◌, List, [], map, ℕ, ◌<◌, get_or};
-ghost use Rattle.rules.specs.When.{need};
-ghost use Rattle.rules.specs.Answers.{first};
+ghost use Rattle.std.specs.Prelude.{◌≡◌, ◌&&◌, List, [], map, ℕ, ◌<◌, get_or};
+ghost use Rattle.rules.specs.Answers.{first, outcome};
 ghost use Rattle.rules.specs.Program.{row_at, label_at};
-ghost use Rattle.rules.specs.View.{form_of, tree_of, tree_at, way_of, stmt_of, stmt_from, rows_from, vars_from, labels_from, body_from, program};
+ghost use Rattle.rules.specs.View.{tree_of, tree_at, way_of, stmt_of, stmt_from, rows_from, vars_from, labels_from, body_from, program};
 ghost use Rattle.rules.specs.Names.{kind_there, fields_there, products_there, entry_suits, entries_suit, label_suits, name_kind, name_row, name_var};
 ghost use Rattle.program.specs.Lines.{tables_of};
-ghost use Rattle.program.specs.Nodes.{arity, after_of};
-ghost use Rattle.names.specs.Walk.{form_there, there_at};
+ghost use Rattle.program.specs.Nodes.{after_of};
+ghost use Rattle.names.specs.Passed.{on_line, passed};
+ghost use Rattle.names.specs.Walk.{there_at};
 ghost use Rattle.names.specs.Trees.{tree_named, stmt_named, line_named, names_in};
 
 use program::Stored;
-use rules::{Answer, Boxed, Entry, Kind, Limits};
-
-fn both(a: bool, b: bool) -> bool
-    ensures { result ≡ (a && b) }
-{
-    if a { b } else { false }
-}
-
-fn needed(n: u32, b: bool, x: u32) -> u32
-    ensures { result ≡ need n b x }
-{
-    if b { x } else { n }
-}
+use rules::{Answer, Boxed, Entry, Form, Kind, Limits, Way};
 
 // ---- kinds and rows
 
@@ -41,24 +29,21 @@ fn kind_there(size: &[u32; 6], k: Kind) -> bool
 }
 
 #[tactic(auto, unfolding(rules::specs::Names::name_kind))]
-fn name_kind(size: &[u32; 6], k: Kind) -> u32
-    ensures { (N R D L B : List ℕ) → result ≡ name_kind (program (tables_of size.now N R D L B)) k }
+fn name_kind(size: &[u32; 6], k: Kind) -> Result<(), u32>
+    ensures { (N R D L B : List ℕ) → result ≡ passed (name_kind (program (tables_of size.now N R D L B)) k) }
 {
-    needed(4, kind_there(size, k), 0)
+    if kind_there(size, k) { Ok(()) } else { Err(4) }
 }
 
 // Every field of product t of row r names a row, an earlier or a later one.
+#[tactic(auto, using(crate::proofs::Laws::fields_done, crate::proofs::Laws::fields_left, table::proofs::Passes::all_no, table::proofs::Passes::all_on), unfolding(rules::specs::Program::fields_of, rules::specs::Program::field_of, rules::specs::View::program))]
 fn fields_there(size: &[u32; 6], rows: &[u32; 17536], r: usize, t: usize) -> bool
     ensures { (N D L B : List ℕ) → result ≡ fields_there (program (tables_of size.now N rows.now D L B)) (get_or (row_at (rows_from size.now rows.now) r).products t []) }
 {
-    let n = program::row_count(size);
-    let m = program::fields_of(size, rows, r, t);
-    let mut o = 0;
-    while o < m {
+    let n = program::fields_of(size, rows, r, t);
+    for o in 0..n {
         let q = program::field_of(size, rows, r, t, o);
-        if q < n {
-            o += 1;
-        } else {
+        if !program::row_there(size, q) {
             return false;
         }
     }
@@ -70,11 +55,8 @@ fn products_there(size: &[u32; 6], rows: &[u32; 17536], r: usize) -> bool
     ensures { (N D L B : List ℕ) → result ≡ products_there (program (tables_of size.now N rows.now D L B)) (row_at (rows_from size.now rows.now) r).products }
 {
     let n = program::prods_of(size, rows, r);
-    let mut t = 0;
-    while t < n {
-        if fields_there(size, rows, r, t) {
-            t += 1;
-        } else {
+    for t in 0..n {
+        if !fields_there(size, rows, r, t) {
             return false;
         }
     }
@@ -87,14 +69,8 @@ fn products_there(size: &[u32; 6], rows: &[u32; 17536], r: usize) -> bool
 fn entry_suits(k: Kind, e: Entry) -> bool
     ensures { result ≡ entry_suits k e }
 {
-    let b = e.boxed;
-    let i = e.offset;
     match k {
-        Kind::Cint => match b {
-            Boxed::Either => entry::zero_offset(i),
-            Boxed::Block => false,
-            Boxed::Imm => false,
-        },
+        Kind::Cint => matches!(e.boxed, Boxed::Either) && entry::zero_offset(e.offset),
         Kind::Value(_) => true,
     }
 }
@@ -109,13 +85,10 @@ fn entries_suit(size: &[u32; 6], vars: &[u32; 96], labels: &[u64; 6208], l: usiz
         return true;
     }
     let n = program::var_count(size);
-    let mut v = 0;
-    while v < n {
+    for v in 0..n {
         let k = program::kind_of(size, vars, v);
         let e = program::label_entry(size, labels, l, v);
-        if entry_suits(k, e) {
-            v += 1;
-        } else {
+        if !entry_suits(k, e) {
             return false;
         }
     }
@@ -124,77 +97,46 @@ fn entries_suit(size: &[u32; 6], vars: &[u32; 96], labels: &[u64; 6208], l: usiz
 
 // ---- expressions
 
-// Whether what a number or a variable names exists; no other operation without operands is anything.
-#[tactic(auto, using(program::proofs::Walk::leaf_rest), unfolding(rules::specs::View::form_of, rules::specs::View::program))]
-fn leaf_there(size: &[u32; 6], op: u32, a: usize) -> bool
-    requires { arity (form_of op) ≡ 0 }
-    ensures { (N R D L B : List ℕ) (x y : Bool) → result ≡ form_there (program (tables_of size.now N R D L B)) (form_of op) a x y }
-{
-    match op {
-        1 => true,
-        2 => program::var_there(size, a),
-        _ => false,
-    }
-}
-
-// Whether what a form with one operand names itself exists: of these only `val` names something.
-#[tactic(auto, using(program::proofs::Walk::one_rest), unfolding(rules::specs::View::form_of, rules::specs::View::program))]
-fn one_there(size: &[u32; 6], op: u32, a: usize) -> bool
-    requires { arity (form_of op) ≡ 1 }
-    ensures { (N R D L B : List ℕ) (x y : Bool) → (result && x) ≡ form_there (program (tables_of size.now N R D L B)) (form_of op) a x y }
-{
-    match op {
-        3 => true,
-        4 => true,
-        5 => program::row_there(size, a),
-        _ => false,
-    }
-}
-
-// One more than the node after a tree that names only what exists, and 0 for any other: so a walk gives one number.
-#[tactic(auto, using(crate::proofs::Laws::at_past, crate::proofs::Laws::at_zero, crate::proofs::Laws::leaf_is, crate::proofs::Laws::one_is, crate::proofs::Laws::one_not, crate::proofs::Laws::two_none, crate::proofs::Laws::two_some))]
-fn there_at(size: &[u32; 6], nodes: &[u64; 4096], depth: usize, at: usize) -> usize
+// The node after a tree that names only what exists; nothing for any other.
+#[tactic(auto, using(crate::proofs::Laws::at_past, crate::proofs::Laws::at_zero))]
+fn there_at(size: &[u32; 6], nodes: &[u64; 4096], depth: usize, at: usize) -> Option<usize>
     ensures { (R D L B : List ℕ) → result ≡ there_at (program (tables_of size.now nodes.now R D L B)) nodes.now depth at }
 {
-    if depth == 0 {
-        return 0;
+    if depth == 0 || Limits::NODES <= at {
+        return None;
     }
-    if Limits::NODES <= at {
-        return 0;
-    }
-    let op = program::operation(nodes, at);
     let a = program::argument(nodes, at) as usize;
-    let n = program::operands(op);
     let first = at + 1;
-    if n == 0 {
-        if leaf_there(size, op, a) {
-            return first + 1;
+    match program::form_of(program::operation(nodes, at)) {
+        Form::Absent => None,
+        Form::Lit => Some(first),
+        Form::Var => {
+            if program::var_there(size, a) {
+                Some(first)
+            } else {
+                None
+            }
         }
-        return 0;
-    }
-    let x = there_at(size, nodes, depth - 1, first);
-    if n == 1 {
-        if one_there(size, op, a) {
-            return x;
+        Form::Fetch | Form::Int => there_at(size, nodes, depth - 1, first),
+        Form::Val => {
+            if program::row_there(size, a) {
+                there_at(size, nodes, depth - 1, first)
+            } else {
+                None
+            }
         }
-        return 0;
+        Form::Step | Form::Calc(_) => {
+            let second = there_at(size, nodes, depth - 1, first)?;
+            there_at(size, nodes, depth - 1, second)
+        }
     }
-    if x == 0 {
-        return 0;
-    }
-    let second = x - 1;
-    there_at(size, nodes, depth - 1, second)
 }
 
 #[tactic(auto, using(crate::proofs::Laws::tree_test))]
 fn tree_there(size: &[u32; 6], nodes: &[u64; 4096], trees: bool, k: usize) -> bool
     ensures { (R D L B : List ℕ) → result ≡ tree_named trees (program (tables_of size.now nodes.now R D L B)) (tree_of (tree_at nodes.now 16 k)) }
 {
-    if trees {
-        there_at(size, nodes, Limits::DEPTH, k) != 0
-    } else {
-        true
-    }
+    !trees || there_at(size, nodes, Limits::DEPTH, k).is_some()
 }
 
 // The two trees of a `put`: the second begins after the first.
@@ -202,22 +144,19 @@ fn tree_there(size: &[u32; 6], nodes: &[u64; 4096], trees: bool, k: usize) -> bo
 fn trees_there(size: &[u32; 6], nodes: &[u64; 4096], trees: bool, k: usize) -> bool
     ensures { (R D L B : List ℕ) → result ≡ (tree_named trees (program (tables_of size.now nodes.now R D L B)) (tree_of (tree_at nodes.now 16 k)) && tree_named trees (program (tables_of size.now nodes.now R D L B)) (tree_of (tree_at nodes.now 16 (after_of (tree_at nodes.now 16 k))))) }
 {
-    if trees {
-        let x = there_at(size, nodes, Limits::DEPTH, k);
-        if x == 0 {
-            return false;
-        }
-        let next = x - 1;
-        tree_there(size, nodes, true, next)
-    } else {
-        true
+    if !trees {
+        return true;
     }
+    let Some(next) = there_at(size, nodes, Limits::DEPTH, k) else {
+        return false;
+    };
+    tree_there(size, nodes, true, next)
 }
 
 // ---- lines
 
 // The label and the variable are read whether the line's kind has a use for them or not: they are something in every table. A tree is walked only where the line has one and trees are looked at.
-#[tactic(auto, using(crate::proofs::Laws::way_none, program::proofs::Walk::with_one_lem, program::proofs::Walk::with_two_lem), unfolding(rules::specs::View::way_of, rules::specs::View::stmt_of, crate::specs::Trees::stmt_named, rules::specs::View::program))]
+#[tactic(auto, using(program::proofs::Walk::with_one_lem, program::proofs::Walk::with_two_lem), unfolding(rules::specs::View::way_of, rules::specs::View::stmt_of, crate::specs::Trees::stmt_named, rules::specs::View::program))]
 fn stmt_there(
     size: &[u32; 6],
     nodes: &[u64; 4096],
@@ -228,24 +167,17 @@ fn stmt_there(
 ) -> bool
     ensures { (R D : List ℕ) → result ≡ stmt_named trees (program (tables_of size.now nodes.now R D labels.now body.now)) (stmt_of nodes.now (way_of s.kind) s.label s.variable s.word s.node) }
 {
-    let kind = s.kind;
-    let l = s.label as usize;
-    let v = s.variable as usize;
     let k = s.node as usize;
-    let label = program::label_there(size, labels, body, l);
-    let n = program::var_count(size);
-    let var = v < n;
-    match kind {
-        1 => both(var, tree_there(size, nodes, trees, k)),
-        2 => trees_there(size, nodes, trees, k),
-        3 => label,
-        4 => both(label, tree_there(size, nodes, trees, k)),
-        5 => both(label, var),
-        6 => both(label, var),
-        7 => both(label, var),
-        8 => tree_there(size, nodes, trees, k),
-        9 => label,
-        _ => false,
+    let label = program::label_there(size, labels, body, s.label as usize);
+    let var = program::var_there(size, s.variable as usize);
+    match program::way_of(s.kind) {
+        Way::Absent => false,
+        Way::Set => var && tree_there(size, nodes, trees, k),
+        Way::Put => trees_there(size, nodes, trees, k),
+        Way::Goto | Way::Label => label,
+        Way::If => label && tree_there(size, nodes, trees, k),
+        Way::IfImm | Way::IfTag | Way::IfInt => label && var,
+        Way::Return => tree_there(size, nodes, trees, k),
     }
 }
 
@@ -253,12 +185,9 @@ fn stmt_there(
 fn line_suits(size: &[u32; 6], vars: &[u32; 96], labels: &[u64; 6208], s: Stored) -> bool
     ensures { (N R B : List ℕ) → result ≡ label_suits (program (tables_of size.now N R vars.now labels.now B)) (stmt_of N (way_of s.kind) s.label s.variable s.word s.node) }
 {
-    let kind = s.kind;
-    let l = s.label as usize;
-    if kind == 9 {
-        entries_suit(size, vars, labels, l)
-    } else {
-        true
+    match program::way_of(s.kind) {
+        Way::Label => entries_suit(size, vars, labels, s.label as usize),
+        _ => true,
     }
 }
 
@@ -271,60 +200,59 @@ fn name_line(
     body: &[u32; 2560],
     trees: bool,
     i: usize,
-) -> u32
-    ensures { (R : List ℕ) → result ≡ line_named trees (program (tables_of size.now nodes.now R vars.now labels.now body.now)) (stmt_from nodes.now body.now i) }
+) -> Result<(), u32>
+    ensures { (R : List ℕ) → result ≡ passed (line_named trees (program (tables_of size.now nodes.now R vars.now labels.now body.now)) (stmt_from nodes.now body.now i)) }
 {
     let s = program::line_at(body, i);
-    let exists = stmt_there(size, nodes, labels, body, trees, s);
-    let suits = line_suits(size, vars, labels, s);
-    needed(4, exists, needed(5, suits, 0))
+    if !stmt_there(size, nodes, labels, body, trees, s) {
+        return Err(4);
+    }
+    if !line_suits(size, vars, labels, s) {
+        return Err(5);
+    }
+    Ok(())
 }
 
 // ---- one loop for each part of the file; `line` is the part's first line
 
-#[tactic(auto, using(program::proofs::Laws::rows_small, table::proofs::Passes::lines_done, table::proofs::Passes::lines_no, table::proofs::Passes::lines_on), unfolding(rules::specs::Names::name_row, rules::specs::Program::row_at))]
-fn name_rows(size: &[u32; 6], rows: &[u32; 17536], line: usize) -> Answer
+// What was said of a line, as an answer that names it.
+fn on_line(said: Result<(), u32>, line: usize) -> Result<(), Answer>
+    ensures { result ≡ on_line line said }
+{
+    said.map_err(|number| Answer { number, line })
+}
+
+#[tactic(auto, using(program::proofs::Laws::rows_small, crate::proofs::Laws::lines_end, crate::proofs::Laws::line_no, crate::proofs::Laws::line_on), unfolding(rules::specs::Names::name_row, rules::specs::Program::row_at))]
+fn name_rows(size: &[u32; 6], rows: &[u32; 17536], line: usize) -> Result<(), Answer>
     requires { line < 1000 }
-    ensures { (N D L B : List ℕ) → result ≡ first line (map (name_row (program (tables_of size.now N rows.now D L B))) (rows_from size.now rows.now)) }
+    ensures { (N D L B : List ℕ) → result ≡ outcome (first line (map (name_row (program (tables_of size.now N rows.now D L B))) (rows_from size.now rows.now))) }
 {
     let n = program::row_count(size);
-    let mut i = 0;
-    while i < n {
-        let b = products_there(size, rows, i);
-        let a = needed(4, b, 0);
-        if a != 0 {
-            return Answer {
-                number: a,
+    for i in 0..n {
+        if !products_there(size, rows, i) {
+            return Err(Answer {
+                number: 4,
                 line: line + i,
-            };
+            });
         }
-        i += 1;
     }
-    Answer { number: 0, line: 0 }
+    Ok(())
 }
 
-#[tactic(auto, using(program::proofs::Laws::vars_small, table::proofs::Passes::lines_done, table::proofs::Passes::lines_no, table::proofs::Passes::lines_on), unfolding(rules::specs::Names::name_var, rules::specs::Program::kind_at))]
-fn name_vars(size: &[u32; 6], vars: &[u32; 96], line: usize) -> Answer
+#[tactic(auto, using(program::proofs::Laws::vars_small, crate::proofs::Laws::lines_end, crate::proofs::Laws::line_no, crate::proofs::Laws::line_on), unfolding(rules::specs::Names::name_var, rules::specs::Program::kind_at))]
+fn name_vars(size: &[u32; 6], vars: &[u32; 96], line: usize) -> Result<(), Answer>
     requires { line < 1000 }
-    ensures { (N R L B : List ℕ) → result ≡ first line (map (name_var (program (tables_of size.now N R vars.now L B))) (vars_from size.now vars.now)) }
+    ensures { (N R L B : List ℕ) → result ≡ outcome (first line (map (name_var (program (tables_of size.now N R vars.now L B))) (vars_from size.now vars.now))) }
 {
     let n = program::var_count(size);
-    let mut i = 0;
-    while i < n {
+    for i in 0..n {
         let k = program::kind_of(size, vars, i);
-        let a = name_kind(size, k);
-        if a != 0 {
-            return Answer {
-                number: a,
-                line: line + i,
-            };
-        }
-        i += 1;
+        on_line(name_kind(size, k), line + i)?;
     }
-    Answer { number: 0, line: 0 }
+    Ok(())
 }
 
-#[tactic(auto, using(crate::proofs::Laws::line_there, program::proofs::Laws::lines_small, rules::specs::Program::bad_s, table::proofs::Passes::lines_done, table::proofs::Passes::lines_no, table::proofs::Passes::lines_on))]
+#[tactic(auto, using(crate::proofs::Laws::line_there, program::proofs::Laws::lines_small, rules::specs::Program::bad_s, crate::proofs::Laws::lines_end, crate::proofs::Laws::line_no, crate::proofs::Laws::line_on))]
 fn name_body(
     size: &[u32; 6],
     nodes: &[u64; 4096],
@@ -333,23 +261,16 @@ fn name_body(
     body: &[u32; 2560],
     trees: bool,
     line: usize,
-) -> Answer
+) -> Result<(), Answer>
     requires { line < 1000 }
-    ensures { (R : List ℕ) → result ≡ first line (map (line_named trees (program (tables_of size.now nodes.now R vars.now labels.now body.now))) (body_from size.now nodes.now body.now)) }
+    ensures { (R : List ℕ) → result ≡ outcome (first line (map (line_named trees (program (tables_of size.now nodes.now R vars.now labels.now body.now))) (body_from size.now nodes.now body.now))) }
 {
     let n = program::line_count(size);
-    let mut i = 0;
-    while i < n {
-        let a = name_line(size, nodes, vars, labels, body, trees, i);
-        if a != 0 {
-            return Answer {
-                number: a,
-                line: line + i,
-            };
-        }
-        i += 1;
+    for i in 0..n {
+        let said = name_line(size, nodes, vars, labels, body, trees, i);
+        on_line(said, line + i)?;
     }
-    Answer { number: 0, line: 0 }
+    Ok(())
 }
 
 // The first line that is refused, `ret` being line 1. Without `trees` what expressions name is not looked at: for a caller who knows that it exists.
@@ -362,27 +283,13 @@ pub fn named(
     labels: &[u64; 6208],
     body: &[u32; 2560],
     trees: bool,
-) -> Answer
-    ensures { result ≡ names_in trees (program (tables_of size.now nodes.now rows.now vars.now labels.now body.now)) }
+) -> Result<(), Answer>
+    ensures { result ≡ outcome (names_in trees (program (tables_of size.now nodes.now rows.now vars.now labels.now body.now))) }
 {
-    let top = name_kind(size, program::ret_kind(size));
-    if top != 0 {
-        return Answer {
-            number: top,
-            line: 1,
-        };
-    }
-    let of_rows = name_rows(size, rows, 2);
-    let in_rows = of_rows.number;
-    if in_rows != 0 {
-        return of_rows;
-    }
+    on_line(name_kind(size, program::ret_kind(size)), 1)?;
+    name_rows(size, rows, 2)?;
     let from_vars = 2 + program::row_count(size);
-    let of_vars = name_vars(size, vars, from_vars);
-    let in_vars = of_vars.number;
-    if in_vars != 0 {
-        return of_vars;
-    }
+    name_vars(size, vars, from_vars)?;
     let from_body = from_vars + program::var_count(size);
     name_body(size, nodes, vars, labels, body, trees, from_body)
 }

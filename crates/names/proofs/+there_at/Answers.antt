@@ -1,35 +1,53 @@
--- By the node that stands there. The program is what the tables mean.
+-- By the form of the node that stands there. The program is what the tables mean.
+use Rattle.std.proofs.Common.{refl, sym, true, false, ◌∙◌}
+use mathlib.Core.Logic.{⊎_elim}
 use Rattle.rules.specs.View.{program}
-use Rattle.program.specs.Lines.{tables_of}
-use Rattle.names.proofs.Laws.{leaf_is, one_is, one_not, two_none, two_some}
+use Rattle.names.proofs.Laws.{leaf_is, one_is, one_not, two_none, two_operands, two_some}
 use Rattle.names.proofs.+there_at.Goals as goal
 
-pub returns-then-leaf_there : goal.returns-then-leaf_there
-returns-then-leaf_there t c R D L B =
-    let a = c.args in
-    rw c.if-leaf_there.true at (leaf_is (program (tables_of a.size.now a.nodes.now R D L B)) a.nodes.now a.depth a.at _ _ _ c.if-depth-eq0.false c.if-at-ge-NODES.false c.operation-op.ensures c.argument-a.ensures c.operands-n.ensures _ c.if-n-eq0.true (c.leaf_there.ensures a.nodes.now R D L B))
+pub returns-in-Absent : goal.returns-in-Absent
+unfolding program
+returns-in-Absent t c R D L B =
+    leaf_is _ _ _ _ c.if-depth-eq0.false c.if-at-ge-NODES.false c.operation.ensures c.argument-a.ensures c.in-Absent.ensures false refl refl
 
-pub returns-then-n-eq0 : goal.returns-then-n-eq0
-returns-then-n-eq0 t c R D L B =
-    let a = c.args in
-    rw c.if-leaf_there.false at (leaf_is (program (tables_of a.size.now a.nodes.now R D L B)) a.nodes.now a.depth a.at _ _ _ c.if-depth-eq0.false c.if-at-ge-NODES.false c.operation-op.ensures c.argument-a.ensures c.operands-n.ensures _ c.if-n-eq0.true (c.leaf_there.ensures a.nodes.now R D L B))
+pub returns-in-Lit : goal.returns-in-Lit
+unfolding program
+returns-in-Lit t c R D L B =
+    leaf_is _ _ _ _ c.if-depth-eq0.false c.if-at-ge-NODES.false c.operation.ensures c.argument-a.ensures c.in-Lit.ensures true refl refl
 
-pub returns-then-one_there : goal.returns-then-one_there
-returns-then-one_there t c R D L B =
-    let a = c.args in
-    one_is (program (tables_of a.size.now a.nodes.now R D L B)) a.nodes.now a.depth a.at _ _ _ c.if-depth-eq0.false c.if-at-ge-NODES.false c.operation-op.ensures c.argument-a.ensures c.operands-n.ensures _ (c.there_at-x.ensures R D L B) c.if-n-eq1.true (λ x y. rw c.if-one_there.true at (c.one_there.ensures a.nodes.now R D L B x y))
+pub returns-then-var_there : goal.returns-then-var_there
+unfolding program
+returns-then-var_there t c R D L B =
+    leaf_is _ _ _ _ c.if-depth-eq0.false c.if-at-ge-NODES.false c.operation.ensures c.argument-a.ensures c.in-Var.ensures true refl (sym c.if-var_there.true ∙ c.var_there.ensures D)
 
-pub returns-then-n-eq1 : goal.returns-then-n-eq1
-returns-then-n-eq1 t c R D L B =
-    let a = c.args in
-    one_not (program (tables_of a.size.now a.nodes.now R D L B)) a.nodes.now a.depth a.at _ _ _ c.if-depth-eq0.false c.if-at-ge-NODES.false c.operation-op.ensures c.argument-a.ensures c.operands-n.ensures _ (c.there_at-x.ensures R D L B) c.if-n-eq1.true (λ x y. rw c.if-one_there.false at (c.one_there.ensures a.nodes.now R D L B x y))
+pub returns-else-var_there : goal.returns-else-var_there
+unfolding program
+returns-else-var_there t c R D L B =
+    leaf_is _ _ _ _ c.if-depth-eq0.false c.if-at-ge-NODES.false c.operation.ensures c.argument-a.ensures c.in-Var.ensures false refl (sym c.if-var_there.false ∙ c.var_there.ensures D)
 
-pub returns-then-x-eq0 : goal.returns-then-x-eq0
-returns-then-x-eq0 t c R D L B =
-    let a = c.args in
-    two_none (program (tables_of a.size.now a.nodes.now R D L B)) a.nodes.now a.depth a.at _ _ _ c.if-depth-eq0.false c.if-at-ge-NODES.false c.operation-op.ensures c.argument-a.ensures c.operands-n.ensures _ (c.there_at-x.ensures R D L B) c.if-n-eq0.false c.if-n-eq1.false c.if-x-eq0.true
+pub returns-in-Fetch : goal.returns-in-Fetch
+returns-in-Fetch t c R D L B =
+    ⊎_elim
+    (λ e. one_is _ _ _ _ c.if-depth-eq0.false c.if-at-ge-NODES.false c.operation.ensures c.argument-a.ensures (sym e ∙ c.form_of.ensures) refl refl (c.there_at.ensures R D L B))
+    (λ e. one_is _ _ _ _ c.if-depth-eq0.false c.if-at-ge-NODES.false c.operation.ensures c.argument-a.ensures (sym e ∙ c.form_of.ensures) refl refl (c.there_at.ensures R D L B))
+    c.in-Fetch.is
 
-pub returns : goal.returns
-returns t c R D L B =
-    let a = c.args in
-    two_some (program (tables_of a.size.now a.nodes.now R D L B)) a.nodes.now a.depth a.at _ _ _ c.if-depth-eq0.false c.if-at-ge-NODES.false c.operation-op.ensures c.argument-a.ensures c.operands-n.ensures _ (c.there_at-x.ensures R D L B) c.if-n-eq0.false c.if-n-eq1.false c.if-x-eq0.false _ (c.there_at.ensures R D L B)
+pub returns-then-row_there : goal.returns-then-row_there
+unfolding program
+returns-then-row_there t c R D L B =
+    one_is _ _ _ _ c.if-depth-eq0.false c.if-at-ge-NODES.false c.operation.ensures c.argument-a.ensures c.in-Val.ensures refl (rw (sym (c.row_there.ensures R), c.if-row_there.true) refl) (c.there_at-then-row_there.ensures R D L B)
+
+pub returns-else-row_there : goal.returns-else-row_there
+unfolding program
+returns-else-row_there t c R D L B =
+    one_not _ _ _ _ c.if-depth-eq0.false c.if-at-ge-NODES.false c.operation.ensures c.argument-a.ensures c.in-Val.ensures refl (rw (sym (c.row_there.ensures R), c.if-row_there.false) refl)
+
+pub returns-in_err-second-in-Step : goal.returns-in_err-second-in-Step
+returns-in_err-second-in-Step t c R D L B =
+    let w = two_operands c.in-Step.is in
+    rw c.from_residual.ensures (two_none _ _ _ _ c.if-depth-eq0.false c.if-at-ge-NODES.false c.operation.ensures c.argument-a.ensures c.form_of.ensures w.0 w.1 (c.in_err-second-in-Step.ensures R D L B))
+
+pub returns-in_ok-second-in-Step : goal.returns-in_ok-second-in-Step
+returns-in_ok-second-in-Step t c R D L B =
+    let w = two_operands c.in-Step.is in
+    two_some _ _ _ _ c.if-depth-eq0.false c.if-at-ge-NODES.false c.operation.ensures c.argument-a.ensures c.form_of.ensures w.0 w.1 (c.in_ok-second-in-Step.ensures R D L B) (c.there_at-in-Step-2.ensures R D L B)

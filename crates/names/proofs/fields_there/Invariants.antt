@@ -6,7 +6,4 @@ use Rattle.program.specs.Lines.{tables_of}
 use Rattle.names.proofs.fields_there.Given as goal
 
 abbrev pub invariant-loop-o : goal.invariant-loop-o
-invariant-loop-o l = (l.o ≤ l.m) × ((N D L B : List ℕ) → fields_there (program (tables_of l.size N l.rows D L B)) (drop l.o (get_or (row_at (rows_from l.size l.rows) l.r).products l.t [])) ≡ fields_there (program (tables_of l.size N l.rows D L B)) (get_or (row_at (rows_from l.size l.rows) l.r).products l.t []))
-
-abbrev pub decreases-loop-o : goal.decreases-loop-o
-decreases-loop-o l = l.m - l.o
+invariant-loop-o l = (N D L B : List ℕ) → fields_there (program (tables_of l.size N l.rows D L B)) (drop l.o (get_or (row_at (rows_from l.size l.rows) l.r).products l.t [])) ≡ fields_there (program (tables_of l.size N l.rows D L B)) (get_or (row_at (rows_from l.size l.rows) l.r).products l.t [])

@@ -1,15 +1,17 @@
 -- Line by line.
-use Rattle.std.proofs.Common.{ap, ◌∙◌, arith}
+use Rattle.std.proofs.Common.{ap, ◌+◌, ◌∙◌}
+use Rattle.std.proofs.lemmas.Result.{err_from_is_err_and}
+use Rattle.rules.specs.Answers.{outcome}
 use Rattle.rules.specs.Program.{bad_s}
-use Rattle.names.specs.Trees.{line_named}
-use Rattle.table.proofs.Passes.{lines_no, lines_on}
-use Rattle.names.proofs.Laws.{line_there}
+use Rattle.names.specs.Passed.{on_line}
+use Rattle.names.proofs.Laws.{line_no, line_on, line_there}
 use Rattle.names.proofs.name_body.Goals as goal
 
-pub returns-then-a-ne0 : goal.returns-then-a-ne0
-returns-then-a-ne0 c R =
-    lines_no _ _ _ _ _ (c.line_count-n.ensures _ _) bad_s _ c.loop-i-test.true (c.name_line-a.ensures R ∙ ap (line_named _ _) (line_there _ _ _ _ _ (c.line_count-n.ensures _ _) c.loop-i-test.true)) c.if-a-ne0.true ∙ c.loop-i.invariant.1 R
+pub returns-in_err-on_line : goal.returns-in_err-on_line
+returns-in_err-on_line c R =
+    let p = err_from_is_err_and c.from_residual.result c.from_residual.ensures.1 in
+    rw (p.1, p.2) (line_no _ _ _ _ _ (c.line_count-n.ensures _ _) bad_s c.loop-i-test.true (c.in_err-on_line.ensures ∙ ap (on_line (c.args.line + c.loop-i.i)) (rw (line_there _ _ _ _ _ (c.line_count-n.ensures c.args.nodes.now c.args.body.now) c.loop-i-test.true) at (c.name_line-said.ensures R))) ∙ ap outcome (c.loop-i.invariant R))
 
 pub loop-i-preserved : goal.loop-i-preserved
-loop-i-preserved c =
-    (omega arith, λ R. lines_on _ _ _ _ _ (c.line_count-n.ensures _ _) bad_s _ c.loop-i-test.true (c.name_line-a.ensures R ∙ ap (line_named _ _) (line_there _ _ _ _ _ (c.line_count-n.ensures _ _) c.loop-i-test.true)) c.if-a-ne0.false ∙ c.loop-i.invariant.1 R)
+loop-i-preserved c R =
+    line_on _ _ _ _ _ (c.line_count-n.ensures _ _) bad_s c.loop-i-test.true (c.in_ok-on_line.ensures ∙ ap (on_line (c.args.line + c.loop-i.i)) (rw (line_there _ _ _ _ _ (c.line_count-n.ensures c.args.nodes.now c.args.body.now) c.loop-i-test.true) at (c.name_line-said.ensures R))) ∙ c.loop-i.invariant R

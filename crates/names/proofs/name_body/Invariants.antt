@@ -6,7 +6,4 @@ use Rattle.program.specs.Lines.{tables_of}
 use Rattle.names.proofs.name_body.Given as goal
 
 abbrev pub invariant-loop-i : goal.invariant-loop-i
-invariant-loop-i l = (l.i ≤ l.n) × ((R : List ℕ) → first (l.line + l.i) (map (line_named l.trees (program (tables_of l.size l.nodes R l.vars l.labels l.body))) (drop l.i (body_from l.size l.nodes l.body))) ≡ first l.line (map (line_named l.trees (program (tables_of l.size l.nodes R l.vars l.labels l.body))) (body_from l.size l.nodes l.body)))
-
-abbrev pub decreases-loop-i : goal.decreases-loop-i
-decreases-loop-i l = l.n - l.i
+invariant-loop-i l = (R : List ℕ) → first (l.line + l.i) (map (line_named l.trees (program (tables_of l.size l.nodes R l.vars l.labels l.body))) (drop l.i (body_from l.size l.nodes l.body))) ≡ first l.line (map (line_named l.trees (program (tables_of l.size l.nodes R l.vars l.labels l.body))) (body_from l.size l.nodes l.body))

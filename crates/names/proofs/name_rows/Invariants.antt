@@ -6,7 +6,4 @@ use Rattle.program.specs.Lines.{tables_of}
 use Rattle.names.proofs.name_rows.Given as goal
 
 abbrev pub invariant-loop-i : goal.invariant-loop-i
-invariant-loop-i l = (l.i ≤ l.n) × ((N D L B : List ℕ) → first (l.line + l.i) (map (name_row (program (tables_of l.size N l.rows D L B))) (drop l.i (rows_from l.size l.rows))) ≡ first l.line (map (name_row (program (tables_of l.size N l.rows D L B))) (rows_from l.size l.rows)))
-
-abbrev pub decreases-loop-i : goal.decreases-loop-i
-decreases-loop-i l = l.n - l.i
+invariant-loop-i l = (N D L B : List ℕ) → first (l.line + l.i) (map (name_row (program (tables_of l.size N l.rows D L B))) (drop l.i (rows_from l.size l.rows))) ≡ first l.line (map (name_row (program (tables_of l.size N l.rows D L B))) (rows_from l.size l.rows))

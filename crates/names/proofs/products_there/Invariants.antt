@@ -6,7 +6,4 @@ use Rattle.program.specs.Lines.{tables_of}
 use Rattle.names.proofs.products_there.Given as goal
 
 abbrev pub invariant-loop-t : goal.invariant-loop-t
-invariant-loop-t l = (l.t ≤ l.n) × ((N D L B : List ℕ) → products_there (program (tables_of l.size N l.rows D L B)) (drop l.t (row_at (rows_from l.size l.rows) l.r).products) ≡ products_there (program (tables_of l.size N l.rows D L B)) (row_at (rows_from l.size l.rows) l.r).products)
-
-abbrev pub decreases-loop-t : goal.decreases-loop-t
-decreases-loop-t l = l.n - l.t
+invariant-loop-t l = (N D L B : List ℕ) → products_there (program (tables_of l.size N l.rows D L B)) (drop l.t (row_at (rows_from l.size l.rows) l.r).products) ≡ products_there (program (tables_of l.size N l.rows D L B)) (row_at (rows_from l.size l.rows) l.r).products
