@@ -232,29 +232,28 @@ fn iftag_shape(s: &[u8], at: usize) -> Next
 pub fn key_at(s: &[u8], at: usize) -> Reading
     ensures { result ≡ shapes.key_at s.now at }
 {
-    let b = byte_at(s, at);
-    match b {
-        103 => or_word(s, at, b"goto=", 7, Err(at)),
-        105 => {
+    match s.get(at) {
+        Some(b'g') => or_word(s, at, b"goto=", 7, Err(at)),
+        Some(b'i') => {
             let r = or_word(s, at, b"if=", 8, Err(at));
             let r = or_word(s, at, b"ifimm=", 9, r);
             let r = or_word(s, at, b"iftag=", 10, r);
             or_word(s, at, b"ifint=", 11, r)
         }
-        108 => {
+        Some(b'l') => {
             let r = or_word(s, at, b"local=", 4, Err(at));
             or_word(s, at, b"label=", 13, r)
         }
-        112 => {
+        Some(b'p') => {
             let r = or_word(s, at, b"param=", 3, Err(at));
             or_word(s, at, b"put=", 6, r)
         }
-        114 => {
+        Some(b'r') => {
             let r = or_word(s, at, b"ret=", 1, Err(at));
             or_word(s, at, b"return=", 12, r)
         }
-        115 => or_word(s, at, b"set=", 5, Err(at)),
-        116 => or_word(s, at, b"type=", 2, Err(at)),
+        Some(b's') => or_word(s, at, b"set=", 5, Err(at)),
+        Some(b't') => or_word(s, at, b"type=", 2, Err(at)),
         _ => Err(at),
     }
 }

@@ -163,19 +163,18 @@ pub fn var_at(s: &[u8], at: usize) -> Reading
 fn operator_at(s: &[u8], at: usize) -> Reading
     ensures { result ≡ words.operator_at s.now at }
 {
-    let b = byte_at(s, at);
-    match b {
-        97 => or_word(s, at, b"add", 7, Err(at)),
-        101 => or_word(s, at, b"eq", 10, Err(at)),
-        102 => or_word(s, at, b"fetch", 3, Err(at)),
-        105 => or_word(s, at, b"int", 4, Err(at)),
-        108 => or_word(s, at, b"lt", 11, Err(at)),
-        109 => or_word(s, at, b"mul", 9, Err(at)),
-        115 => {
+    match s.get(at) {
+        Some(b'a') => or_word(s, at, b"add", 7, Err(at)),
+        Some(b'e') => or_word(s, at, b"eq", 10, Err(at)),
+        Some(b'f') => or_word(s, at, b"fetch", 3, Err(at)),
+        Some(b'i') => or_word(s, at, b"int", 4, Err(at)),
+        Some(b'l') => or_word(s, at, b"lt", 11, Err(at)),
+        Some(b'm') => or_word(s, at, b"mul", 9, Err(at)),
+        Some(b's') => {
             let r = or_word(s, at, b"step", 6, Err(at));
             or_word(s, at, b"sub", 8, r)
         }
-        118 => or_word(s, at, b"val", 5, Err(at)),
+        Some(b'v') => or_word(s, at, b"val", 5, Err(at)),
         _ => Err(at),
     }
 }
