@@ -1,7 +1,6 @@
 -- What the proofs of several functions use; and that what is read once is what the rules read.
-mod Exprs
+pub mod Exprs
 pub mod Keys
 pub mod Mark
-mod Ways
 mod Shaped
 pub mod Right

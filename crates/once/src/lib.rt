@@ -7,38 +7,36 @@ ghost use Rattle.rules.specs.Text.Fill as fills;
 ghost use Rattle.once.specs.Once.{operands_once, expr_once, once, last_once, set_once, if_once, rest_once, put_once, line_once};
 
 use program::{put_line, put_node};
-use rules::{Filling, Head, Limits, Reading};
+use rules::{Filling, Key, Limits};
+use shape::key_of;
 use text::{arity, byte_at, head_at, number_at, plain_at, var_at};
 
 // ---- expressions: each node before its operands. A node without operands, and the last operand, end without a further call
 
 #[cycle(expression_operands)]
+#[tactic(auto, using(crate::proofs::Exprs::by_head, crate::proofs::Exprs::no_head), unfolding(crate::specs::Once::expr_once, crate::specs::Once::operands_once))]
 fn expression(s: &[u8], depth: usize, at: usize, free: usize, nodes: &mut [u64; 4096]) -> Filling
     ensures { fills.out result nodes.new ≡ expr_once s.now depth at free nodes.old }
 {
     if depth == 0 {
         return None;
     }
-    let h = head_at(s, at);
-    match h {
-        Err(_) => None,
-        Ok((op, a, n)) => {
-            if Limits::NODES <= free {
-                return None;
-            }
-            put_node(nodes, free, op, a);
-            let f = free + 1;
-            let m = arity(op);
-            if m == 0 {
-                return Some((n, f));
-            }
-            operands(s, depth - 1, m, n, f, nodes)
-        }
+    let (op, a, n) = head_at(s, at).ok()?;
+    if Limits::NODES <= free {
+        return None;
     }
+    put_node(nodes, free, op, a);
+    let after = free + 1;
+    let m = arity(op);
+    if m == 0 {
+        return Some((n, after));
+    }
+    operands(s, depth - 1, m, n, after, nodes)
 }
 
 // n operands, each after a space.
 #[cycle(expression_operands)]
+#[tactic(auto, using(crate::proofs::Exprs::an_operand), unfolding(crate::specs::Once::operands_once))]
 fn operands(
     s: &[u8],
     depth: usize,
@@ -55,16 +53,11 @@ fn operands(
     if byte_at(s, at) != 32 {
         return None;
     }
-    let r = expression(s, depth, at + 1, free, nodes);
-    match r {
-        Some((next, f)) => {
-            if n == 1 {
-                return Some((next, f));
-            }
-            operands(s, depth, n - 1, next, f, nodes)
-        }
-        None => None,
+    let (next, f) = expression(s, depth, at + 1, free, nodes)?;
+    if n == 1 {
+        return Some((next, f));
     }
+    operands(s, depth, n - 1, next, f, nodes)
 }
 
 // ---- lines. The line's first node is `node`; a line feed stands after its last expression
@@ -86,17 +79,12 @@ fn last_once(
 ) -> Filling
     ensures { once result nodes.new body.new ≡ last_once s.now line node kind l v w body.old (expr_once s.now 16 at free nodes.old) }
 {
-    let e = expression(s, Limits::DEPTH, at, free, nodes);
-    match e {
-        None => None,
-        Some((n, f)) => {
-            if byte_at(s, n) != 10 {
-                return None;
-            }
-            put_line(body, line, kind, l, v, w, node);
-            Some((n, f))
-        }
+    let (n, f) = expression(s, Limits::DEPTH, at, free, nodes)?;
+    if byte_at(s, n) != 10 {
+        return None;
     }
+    put_line(body, line, kind, l, v, w, node);
+    Some((n, f))
 }
 
 // `set=V E`
@@ -111,16 +99,23 @@ fn set_once(
 ) -> Filling
     ensures { once result nodes.new body.new ≡ set_once s.now line node at nodes.old body.old }
 {
-    match var_at(s, at) {
-        Err(_) => None,
-        Ok((v, n)) => {
-            if byte_at(s, n) != 32 {
-                return None;
-            }
-            let free = node as usize;
-            last_once(s, line, node, 1, 0, v as u32, 0, n + 1, free, nodes, body)
-        }
+    let (v, n) = var_at(s, at).ok()?;
+    if byte_at(s, n) != 32 {
+        return None;
     }
+    last_once(
+        s,
+        line,
+        node,
+        1,
+        0,
+        v as u32,
+        0,
+        n + 1,
+        node as usize,
+        nodes,
+        body,
+    )
 }
 
 // `if=L E`
@@ -135,16 +130,23 @@ fn if_once(
 ) -> Filling
     ensures { once result nodes.new body.new ≡ if_once s.now line node at nodes.old body.old }
 {
-    match plain_at(s, at) {
-        Err(_) => None,
-        Ok((l, n)) => {
-            if byte_at(s, n) != 32 {
-                return None;
-            }
-            let free = node as usize;
-            last_once(s, line, node, 4, l as u32, 0, 0, n + 1, free, nodes, body)
-        }
+    let (l, n) = plain_at(s, at).ok()?;
+    if byte_at(s, n) != 32 {
+        return None;
     }
+    last_once(
+        s,
+        line,
+        node,
+        4,
+        l as u32,
+        0,
+        0,
+        n + 1,
+        node as usize,
+        nodes,
+        body,
+    )
 }
 
 // N, which stands at n, and the second E of `put=E N E`.
@@ -160,15 +162,11 @@ fn put_rest(
 ) -> Filling
     ensures { once result nodes.new body.new ≡ rest_once s.now line node n free nodes.old body.old }
 {
-    match number_at(s, n) {
-        Err(_) => None,
-        Ok((w, m)) => {
-            if byte_at(s, m) != 32 {
-                return None;
-            }
-            last_once(s, line, node, 2, 0, 0, w as u32, m + 1, free, nodes, body)
-        }
+    let (w, m) = number_at(s, n).ok()?;
+    if byte_at(s, m) != 32 {
+        return None;
     }
+    last_once(s, line, node, 2, 0, 0, w as u32, m + 1, free, nodes, body)
 }
 
 // `put=E N E`
@@ -183,20 +181,15 @@ fn put_once(
 ) -> Filling
     ensures { once result nodes.new body.new ≡ put_once s.now line node at nodes.old body.old }
 {
-    let e = expression(s, Limits::DEPTH, at, node as usize, nodes);
-    match e {
-        None => None,
-        Some((n, f)) => {
-            if byte_at(s, n) != 32 {
-                return None;
-            }
-            put_rest(s, line, node, n + 1, f, nodes, body)
-        }
+    let (n, f) = expression(s, Limits::DEPTH, at, node as usize, nodes)?;
+    if byte_at(s, n) != 32 {
+        return None;
     }
+    put_rest(s, line, node, n + 1, f, nodes, body)
 }
 
 // A line from the place after the key of number k on: the place of its line feed, and the next free node.
-#[tactic(auto, using(crate::proofs::Keys::other_keys, crate::proofs::Ways::no_key_lem), unfolding(crate::specs::Once::line_once, crate::specs::Once::key_once, rules::specs::Text::Shape::key_of))]
+#[tactic(auto, unfolding(crate::specs::Once::line_once, crate::specs::Once::key_once))]
 pub fn line_once(
     s: &[u8],
     k: u64,
@@ -208,18 +201,15 @@ pub fn line_once(
 ) -> Filling
     ensures { once result nodes.new body.new ≡ line_once s.now k at line free nodes.old body.old }
 {
-    if Limits::LINES <= line {
-        return None;
-    }
-    if Limits::NODES <= free {
+    if Limits::LINES <= line || Limits::NODES <= free {
         return None;
     }
     let node = free as u32;
-    match k {
-        5 => set_once(s, line, node, at, nodes, body),
-        6 => put_once(s, line, node, at, nodes, body),
-        8 => if_once(s, line, node, at, nodes, body),
-        12 => last_once(s, line, node, 8, 0, 0, 0, at, free, nodes, body),
+    match key_of(k) {
+        Key::Set => set_once(s, line, node, at, nodes, body),
+        Key::Put => put_once(s, line, node, at, nodes, body),
+        Key::If => if_once(s, line, node, at, nodes, body),
+        Key::Return => last_once(s, line, node, 8, 0, 0, 0, at, free, nodes, body),
         _ => None,
     }
 }
