@@ -1,7 +1,8 @@
 -- A label that is read once: its shape ends where it says, or is wrong where it says, and its entries are written as the rules write them. Assumes nothing.
 use native.Mathlib.Numerals.{sub-one}
+use Rattle.rules.specs.declared.Key.TheVariants as K
 use native.Mathlib.Omega.{arith}
-use borrow.Author.Tests.{lt-ltb, eq-eqb, ne_eqb}
+use borrow.Author.Tests.{lt-ltb, le-ltb, eq-eqb, ne_eqb}
 use Rattle.std.specs.Prelude.{◌+◌, ◌-◌, ◌*◌, ◌≤◌, ◌<◌, ◌≡◌, Ok, Err}
 use Rattle.rules.specs.Prelude.{ℕ, zero, suc, Bool, true, false, List, refl, sym, ap, subst, ◌∙◌, ltb, eqb, set}
 use Rattle.rules.specs.declared.Count.{Count}
@@ -17,7 +18,7 @@ use Rattle.once.specs.Once.{after_mark}
 use Rattle.once.proofs.Right.{Refuses}
 use Rattle.reader.specs.Read.{Late, settled}
 use Rattle.reader.proofs.Once.{late_bad, late_no_feed}
-use Rattle.reader.proofs.Ways.{label_room, label_full, too_many}
+use Rattle.reader.proofs.Ways.{label_room, label_full}
 use Rattle.reader.specs.Labels.{Entered, entered, put_once, tag_once, offset_once, entry_once, more_once, entries_once}
 
 -- the shape of all entries, and what the rules fill
@@ -121,13 +122,14 @@ module _ (s : List ℕ) (l v at more : ℕ) (L : List ℕ) (p : 0 < more) {x : N
 
 -- ---- the line, whole
 
-module _ (s : List ℕ) (at : ℕ) (c : Count) (t : Tables) where
-  pub lines_full : 512 ≤ c.lines → Late s 13 at c t
-  lines_full h n e b = subst Refuses (sym (too_many s at c t 13 (omega arith) h)) tt
+module _ (s : List ℕ) (at : ℕ) (c : Count) (t : Tables) (k : ℕ) (e : key_of k ≡ K.Label) where
+  pub lines_full : 512 ≤ c.lines → Late s k at c t
+  unfolding fill_line
+  lines_full h n q b = rw (e, le-ltb c.lines 512) tt
 
-  pub labels_full : 64 ≤ c.labels → Late s 13 at c t
-  unfolding fill_line key_of
-  labels_full h n e b = by (ltb c.lines 512)
+  pub labels_full : 64 ≤ c.labels → Late s k at c t
+  unfolding fill_line
+  labels_full h n q b = rw e (by (ltb c.lines 512))
     where
       by : (room : Bool) → Refuses (when room (λ _. fill_label s at c t) (λ _. filled false c t))
       by true = subst Refuses (sym (label_full s at c t h)) tt
@@ -140,23 +142,23 @@ module _ (s : List ℕ) (at : ℕ) (c : Count) (t : Tables) where
         subst (All (label_shape s c.vars at) (fill_entries s c.labels c.vars 0 (set t.labels (c.labels * 97) (c.lines + 1)) at))
         (sym q ∙ ap (λ (z : Next). entered z M) h) (entries_all s c.labels c.vars 0 at _)
 
-    pub label_bad : {p : ℕ} → x ≡ Err p → (u : Tables) (m : ℕ) (d : Count) → settled (lined 2 m d u) ≡ settled (shaped s 13 at c t (line_shape s c.vars (key_of 13) at))
-    unfolding line_shape key_of
-    label_bad {p} h u m d = late_bad s 13 at c t u {x = Err p} (sym (told_as (Err p) h)) m d refl
+    pub label_bad : {p : ℕ} → x ≡ Err p → (u : Tables) (m : ℕ) (d : Count) → settled (lined 2 m d u) ≡ settled (shaped s k at c t (line_shape s c.vars (key_of k) at))
+    unfolding line_shape
+    label_bad {p} h u m d = late_bad s k at c t u {x = Err p} (rw e (sym (told_as (Err p) h))) m d refl
 
     module _ {n : ℕ} (h : x ≡ Ok n) where
-      shape_ends : line_shape s c.vars (key_of 13) at ≡ Ok n
-      unfolding line_shape key_of
-      shape_ends = (told_as (Ok n) h).0
+      shape_ends : line_shape s c.vars (key_of k) at ≡ Ok n
+      unfolding line_shape
+      shape_ends = rw e ((told_as (Ok n) h).0)
 
-      pub label_no_feed : (byte_at s n ≡ 10 → ⊥) → (u : Tables) (m : ℕ) (d : Count) → settled (lined 2 m d u) ≡ settled (shaped s 13 at c t (line_shape s c.vars (key_of 13) at))
-      label_no_feed z u m d = late_no_feed s 13 at c t u {x = Ok n} (sym shape_ends) refl m d z
+      pub label_no_feed : (byte_at s n ≡ 10 → ⊥) → (u : Tables) (m : ℕ) (d : Count) → settled (lined 2 m d u) ≡ settled (shaped s k at c t (line_shape s c.vars (key_of k) at))
+      label_no_feed z u m d = late_no_feed s k at c t u {x = Ok n} (sym shape_ends) refl m d z
 
       module _ (few : c.lines < 512) (room : c.labels < 64) {B : List ℕ} (p : B ≡ put_line t.body c.lines 9 c.labels 0 0 0) where
-        filled_whole : fill_line s (key_of 13) at c t ≡ filled true (one_label (one_line c c.nodes)) (with_body (with_labels t M) B)
-        unfolding fill_line key_of plain_line
-        filled_whole = rw (lt-ltb c.lines 512, label_room s at c t room, (told_as (Ok n) h).1, p) refl
+        filled_whole : fill_line s (key_of k) at c t ≡ filled true (one_label (one_line c c.nodes)) (with_body (with_labels t M) B)
+        unfolding fill_line plain_line
+        filled_whole = rw (e, lt-ltb c.lines 512, label_room s at c t room, (told_as (Ok n) h).1, p) refl
 
-        pub label_whole : byte_at s n ≡ 10 → {d : Count} → d ≡ in_part (one_label (one_line c c.nodes)) (part_of 13)
-            → settled (lined 0 (n + 1) d (with_body (with_labels t M) B)) ≡ settled (shaped s 13 at c t (line_shape s c.vars (key_of 13) at))
+        pub label_whole : byte_at s n ≡ 10 → {d : Count} → d ≡ in_part (one_label (one_line c c.nodes)) (part_of k)
+            → settled (lined 0 (n + 1) d (with_body (with_labels t M) B)) ≡ settled (shaped s k at c t (line_shape s c.vars (key_of k) at))
         label_whole z g = rw (g, shape_ends, eq-eqb (byte_at s n) 10 z, filled_whole) refl

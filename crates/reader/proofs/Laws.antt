@@ -1,12 +1,10 @@
 -- Bounds: what a word is and where it ends, and that counts stay within the limits from line to line; and what the answer and the tables are, taken apart. Assumes nothing.
-use mathlib.Core.Logic.{⊎_elim}
 use Rattle.rules.specs.declared.Key.{Key}
 use Rattle.rules.specs.declared.Key.TheVariants as K
-use native.Mathlib.Nat.{eq-zero-or-pos}
 use native.Mathlib.Omega.{arith}
-use borrow.Author.Tests.{ltb-true, eqb-true, eq-eqb, ne_eqb}
-use Rattle.std.specs.Prelude.{◌+◌, ◌-◌, ◌*◌, ◌≤◌, ◌<◌, ◌&&◌, ◌||◌, ◌≡◌, Some, None, Ok, Err}
-use Rattle.rules.specs.Prelude.{ℕ, max, Bool, true, false, List, refl, ap, ◌∙◌, ltb, eqb, length, set}
+use borrow.Author.Tests.{ltb-true, eq-eqb, ne_eqb}
+use Rattle.std.specs.Prelude.{◌+◌, ◌*◌, ◌≤◌, ◌<◌, ◌≡◌, Some, None, Ok, Err}
+use Rattle.rules.specs.Prelude.{ℕ, max, true, false, List, refl, ap, ◌∙◌, ltb, eqb, length, set}
 use Rattle.rules.specs.declared.Answer.{Answer}
 use Rattle.rules.specs.declared.Count.{Count}
 use Rattle.rules.specs.Text.Words.{Reading}
@@ -17,18 +15,11 @@ use Rattle.rules.specs.Text.Words.{byte_at, value_of, next_of, plain_at, number_
 use Rattle.rules.specs.Text.Shape.{kind_word, psi_at, key_of, key_at, line_shape, in_order}
 use Rattle.rules.specs.Text.Layout.{Tables, row_width}
 use Rattle.rules.specs.Text.Fill.{Filled, filled, Out, out, expression, kind_value, kind_next, add_var, Fields, fields, fill_ret, fill_param, fill_local, fill_products, add_row, fill_type, plain_line, expr_line, fill_set, fill_put_two, fill_put, fill_goto, fill_if, fill_ifimm, fill_test, fill_return, fill_label, one_more, fill_line}
-use Rattle.text.proofs.Laws.{inside, Reads, value_most, next_most}
+use Rattle.text.proofs.Laws.{Reads, value_most, next_most}
 use Rattle.shape.proofs.Laws.{kind_reads}
 use Rattle.program.specs.Lines.{tables_of}
 use Rattle.reader.specs.Read.{Placed, Near, Worded, Fits, Within, Holds}
 use Rattle.reader.proofs.Exprs.{Ends, expression_ends}
-
--- ---- numbers
-
--- the next number, where k is not this one
-pub on_from : (m k : ℕ) → m ≤ k → (k ≡ m → ⊥) → m + 1 ≤ k
-on_from m k h n =
-    ⊎_elim (λ e. let q : k ≡ m = omega arith in absurd (n q)) (λ p. omega arith) (eq-zero-or-pos (k - m))
 
 -- ---- words
 
@@ -58,30 +49,6 @@ module _ (s : List ℕ) (at : ℕ) where
         → Worded s at (kind_value s (kind_word s at)) (kind_next s (kind_word s at)) (v + 2) past
     kind_value_lem z w =
         rw (← q, ne_eqb k 0 z) (record { gives = ap (λ (x : ℕ). x + 2) w.gives; goes = w.goes; near = omega (arith, w.near, next_in at (kind_reads s at) q) })
-
--- ---- fields
-
-pub all_three : (x y z : Bool) → (x && (y && z)) ≡ true → (x ≡ true) × ((y ≡ true) × (z ≡ true))
-all_three true true z e = (refl, (refl, e))
-all_three true false z e = let q : ◌≡◌ {A = ℕ} 0 1 = cc in absurd (omega arith)
-all_three false y z e = let q : ◌≡◌ {A = ℕ} 0 1 = cc in absurd (omega arith)
-
--- a field that fits has its place
-pub field_fits : (k o total : ℕ) → (ltb k 16 && (ltb o 16 && ltb total 1024)) ≡ true → (k < 16) × ((o < 16) × (total < 1024))
-field_fits k o total e =
-    let h = all_three (ltb k 16) (ltb o 16) (ltb total 1024) e in
-    (ltb-true k 16 h.0, (ltb-true o 16 h.1.0, ltb-true total 1024 h.1.1))
-
-either_byte : (x y : Bool) {P : Type 0} → (x || y) ≡ true → (x ≡ true → P) → (y ≡ true → P) → P
-either_byte true y e f g = f refl
-either_byte false y e f g = g e
-
--- a comma or a bar stands inside the text
-pub mark_inside : (s : List ℕ) (n : ℕ) {b : ℕ} → b ≡ byte_at s n → (eqb b 44 || eqb b 124) ≡ true → n < length s
-mark_inside s n {b} q e =
-    either_byte (eqb b 44) (eqb b 124) e
-    (λ h. let x : b ≡ 44 = eqb-true b 44 h in inside s n (omega (arith, q)))
-    (λ h. let x : b ≡ 124 = eqb-true b 124 h in inside s n (omega (arith, q)))
 
 -- ---- counts
 

@@ -1,9 +1,7 @@
 -- Lines with expressions: read at once, or refused by their shape or a limit; and what of a line counts for those after it. Assumes nothing.
-use mathlib.Core.Logic.{⊎_elim}
-use native.Mathlib.Nat.{eq-zero-or-pos}
 use native.Mathlib.Omega.{arith}
 use borrow.Author.Tests.{eq-eqb, ne_eqb}
-use Rattle.std.specs.Prelude.{◌+◌, ◌-◌, ◌≤◌, ◌<◌, ◌≡◌, Some, None, Ok, Err}
+use Rattle.std.specs.Prelude.{◌+◌, ◌<◌, ◌≡◌, Some, None, Ok, Err}
 use Rattle.rules.specs.Prelude.{ℕ, Bool, true, false, List, refl, sym, ap, subst, ◌∙◌, eqb, length}
 use Rattle.rules.specs.declared.Count.{Count}
 use Rattle.rules.specs.Text.Words.{Next}
@@ -17,23 +15,9 @@ use Rattle.rules.specs.Text.Fill.{Filled, filled, fill_line}
 use Rattle.text.proofs.Laws.{inside}
 use Rattle.once.specs.Once.{Onced, once, line_once, has_expr}
 use Rattle.once.proofs.Keys.{none}
-use Rattle.once.proofs.Right.{Refuses, Told, line_told, line_room}
-use Rattle.reader.specs.Read.{Within, Plain, Late, settled}
-use Rattle.reader.proofs.Laws.{on_from, FitsLined}
-
--- ---- keys
-
--- of the body lines without expressions that are no labels `ifint=` is the last
-pub only_ifint : (k : ℕ) → Plain k → (k ≡ 7 → ⊥) → (k ≡ 9 → ⊥) → (k ≡ 10 → ⊥) → k ≡ 11
-unfolding has_expr key_of
-only_ifint k (h, (l, e)) a b d =
-    let differs : (j : ℕ) → has_expr (key_of j) ≡ true → k ≡ j → ⊥ = λ j q z. none (sym q ∙ ap (λ (x : ℕ). has_expr (key_of x)) (sym z) ∙ e) in
-    let m : 8 ≤ k = on_from 7 k (on_from 6 k (on_from 5 k h (differs 5 refl)) (differs 6 refl)) a in
-    let n : 11 ≤ k = on_from 10 k (on_from 9 k (on_from 8 k m (differs 8 refl)) b) d in
-    ⊎_elim (λ z. omega arith) (λ p. let z : k ≡ 12 = omega arith in absurd (differs 12 refl z)) (eq-zero-or-pos (k - 11))
-
-pub no_label : (k : ℕ) → k ≤ 13 → (k ≡ 13 → ⊥) → k < 13
-no_label k h n = ⊎_elim (λ e. let q : k ≡ 13 = omega arith in absurd (n q)) (λ p. omega arith) (eq-zero-or-pos (13 - k))
+use Rattle.once.proofs.Right.{Refuses, Told, line_told}
+use Rattle.reader.specs.Read.{Within, Late, given, kept, settled}
+use Rattle.reader.proofs.Laws.{FitsLined}
 
 -- ---- a line for those after it
 
@@ -77,9 +61,6 @@ module _ (s : List ℕ) (k at : ℕ) (c : Count) (t : Tables) (e : has_expr (key
       (sym q ∙ ap (λ (z : Filling). once z M B) h) (line_told s c t c.vars k at e)
 
   module _ {n f : ℕ} (h : r ≡ Some (n, f)) where
-    pub once_room : c.lines < 512
-    once_room = line_room s k at c.lines c.nodes t.nodes t.body M B n f (ap (λ (z : Filling). once z M B) (sym h) ∙ q)
-
     pub once_inside : n < length s
     once_inside = inside s n (omega (arith, (told_as _ h).1))
 
@@ -89,6 +70,19 @@ module _ (s : List ℕ) (k at : ℕ) (c : Count) (t : Tables) (e : has_expr (key
 
   pub once_late : r ≡ None → Late s k at c t
   once_late h = told_as None h
+
+-- ---- past a limit
+
+abbrev within_limits : Filled → Bool
+within_limits (filled ok c t) = ok
+
+pub passed : (k m n : ℕ) (d : Count) (u : Tables) (f : Filled) → Refuses f → settled (lined 3 m d u) ≡ settled (limited k n f)
+passed k m n d u (filled false b v) z = same_number 3 m n d b u v (λ e. omega (arith, e))
+passed k m n d u (filled true b v) z = elim z [ ]
+
+pub kept_none : (f : Filled) → given None zeros ≡ kept f → Refuses f
+kept_none (filled false b v) e = tt
+kept_none (filled true b v) e = let y : true ≡ false = ap (λ (x : Filled). within_limits x) (sym e) in none y
 
 -- ---- not read at once
 
@@ -100,9 +94,5 @@ module _ (s : List ℕ) (k at : ℕ) (c : Count) (t u : Tables) {x : Next} (q : 
     pub late_no_feed : (byte_at s n ≡ 10 → ⊥) → settled (lined 2 m d u) ≡ settled (shaped s k at c t (line_shape s c.vars (key_of k) at))
     late_no_feed z = rw (sym q ∙ h, ne_eqb (byte_at s n) 10 z) (same_number 2 m n d c u t (λ e. omega (arith, e)))
 
-    passed : (f : Filled) → Refuses f → settled (lined 3 m d u) ≡ settled (limited k (n + 1) f)
-    passed (filled false b v) z = same_number 3 m (n + 1) d b u v (λ e. omega (arith, e))
-    passed (filled true b v) z = elim z [ ]
-
     pub late_limit : byte_at s n ≡ 10 → Late s k at c t → settled (lined 3 m d u) ≡ settled (shaped s k at c t (line_shape s c.vars (key_of k) at))
-    late_limit z l = rw (sym q ∙ h, eq-eqb (byte_at s n) 10 z) (passed (fill_line s (key_of k) at c t) (l n (sym q ∙ h) z))
+    late_limit z l = rw (sym q ∙ h, eq-eqb (byte_at s n) 10 z) (passed k m (n + 1) d u (fill_line s (key_of k) at c t) (l n (sym q ∙ h) z))

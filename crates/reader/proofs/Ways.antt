@@ -2,30 +2,23 @@
 use native.Mathlib.Numerals.{sub-one}
 use native.Mathlib.Omega.{arith}
 use borrow.Author.Tests.{lt-ltb, le-ltb, eq-eqb, ne_eqb}
-use Rattle.std.specs.Prelude.{◌+◌, ◌-◌, ◌*◌, ◌≤◌, ◌<◌, ◌&&◌, ◌||◌, ◌≡◌, Ok, Err}
+use Rattle.std.specs.Prelude.{◌+◌, ◌-◌, ◌*◌, ◌≤◌, ◌<◌, ◌&&◌, ◌||◌, ◌≡◌, Ok}
 use Rattle.rules.specs.Prelude.{ℕ, zero, suc, Bool, true, false, List, refl, sym, ap, ◌∙◌, ltb, eqb, length, set}
 use Rattle.rules.specs.declared.Answer.{Answer}
 use Rattle.rules.specs.declared.Count.{Count}
 use Rattle.rules.specs.Text.Words.{Reading}
 use Rattle.rules.specs.Text.Words.{Next}
 use Rattle.rules.specs.When.{when}
-use Rattle.rules.specs.Answers.{answer, accepted}
+use Rattle.rules.specs.Answers.{answer}
 use Rattle.rules.specs.Text.{TextOut, stopped, Lined, lined, limited, shaped, keyed, line_at, ended, and_line, lines_from}
 use Rattle.rules.specs.Text.Words.{byte_at, value_of, next_of, plain_at}
 use Rattle.rules.specs.Text.Shape.{psi_at, key_of, in_order, line_shape}
-use Rattle.rules.specs.Text.Layout.{Tables, with_vars, with_labels, one_var, sized, nothing}
-use Rattle.rules.specs.Text.Fill.{Filled, filled, put_var, add_var, Fields, fields, put_field, more_fields, fill_fields, fill_products, add_row, fill_type, plain_line, fill_entries, add_label, fill_label, one_more, fill_line}
+use Rattle.rules.specs.Text.Layout.{Tables, with_labels, nothing}
+use Rattle.rules.specs.Text.Fill.{Filled, filled, Fields, fields, put_field, more_fields, fill_fields, fill_products, add_row, fill_type, plain_line, fill_entries, add_label, fill_label, one_more, fill_line}
 use Rattle.reader.specs.Read.{settled, closed, read_over}
 use Rattle.reader.proofs.Once.{line_settled}
 
 -- ---- lines before the body
-
-module _ (c : Count) (t : Tables) (kind how number : ℕ) where
-  pub var_room : c.vars < 32 → add_var c t kind how number ≡ filled true (one_var c) (with_vars t (put_var t.vars c.vars kind how number))
-  var_room h = rw (lt-ltb c.vars 32)
-
-  pub var_full : 32 ≤ c.vars → add_var c t kind how number ≡ filled false c t
-  var_full h = rw (le-ltb c.vars 32)
 
 module _ (s : List ℕ) (r total : ℕ) (R : List ℕ) (at : ℕ) where
   pub no_products : byte_at s at ≡ 10 → fill_products s r total R at ≡ fields true total R
@@ -110,29 +103,11 @@ module _ (s : List ℕ) (at : ℕ) (c : Count) (t : Tables) where
   unfolding fill_label
   label_full h = rw (le-ltb c.labels 64)
 
-  pub in_body : (k j : ℕ) (x : Filled) → k ≡ j → c.lines < 512 → fill_line s (key_of j) at c t ≡ one_more c t x → x ≡ fill_line s (key_of k) at c t
-  in_body k j x e h q = sym (ap (λ (n : ℕ). fill_line s (key_of n) at c t) e ∙ q ∙ rw (lt-ltb c.lines 512))
+  pub in_room : (x : Filled) → c.lines < 512 → one_more c t x ≡ x
+  in_room x h = rw (lt-ltb c.lines 512)
 
-  pub too_many : (k : ℕ) → 5 ≤ k → 512 ≤ c.lines → fill_line s (key_of k) at c t ≡ filled false c t
-  unfolding fill_line key_of
-  too_many k h g = by k h
-    where
-      by : (n : ℕ) → 5 ≤ n → fill_line s (key_of n) at c t ≡ filled false c t
-      by zero p = refl
-      by (suc zero) p = absurd (omega arith)
-      by (suc (suc zero)) p = absurd (omega arith)
-      by (suc (suc (suc zero))) p = absurd (omega arith)
-      by (suc (suc (suc (suc zero)))) p = absurd (omega arith)
-      by (suc (suc (suc (suc (suc zero))))) p = rw (le-ltb c.lines 512)
-      by (suc (suc (suc (suc (suc (suc zero)))))) p = rw (le-ltb c.lines 512)
-      by (suc (suc (suc (suc (suc (suc (suc zero))))))) p = rw (le-ltb c.lines 512)
-      by (suc (suc (suc (suc (suc (suc (suc (suc zero)))))))) p = rw (le-ltb c.lines 512)
-      by (suc (suc (suc (suc (suc (suc (suc (suc (suc zero))))))))) p = rw (le-ltb c.lines 512)
-      by (suc (suc (suc (suc (suc (suc (suc (suc (suc (suc zero)))))))))) p = rw (le-ltb c.lines 512)
-      by (suc (suc (suc (suc (suc (suc (suc (suc (suc (suc (suc zero))))))))))) p = rw (le-ltb c.lines 512)
-      by (suc (suc (suc (suc (suc (suc (suc (suc (suc (suc (suc (suc zero)))))))))))) p = rw (le-ltb c.lines 512)
-      by (suc (suc (suc (suc (suc (suc (suc (suc (suc (suc (suc (suc (suc zero))))))))))))) p = rw (le-ltb c.lines 512)
-      by (suc (suc (suc (suc (suc (suc (suc (suc (suc (suc (suc (suc (suc (suc n)))))))))))))) p = refl
+  pub no_room : (x : Filled) → 512 ≤ c.lines → one_more c t x ≡ filled false c t
+  no_room x h = rw (le-ltb c.lines 512)
 
   -- ---- a line, whole
 
@@ -152,12 +127,6 @@ module _ (s : List ℕ) (at : ℕ) (c : Count) (t : Tables) where
 -- ---- the text, whole
 
 module _ (c : Count) (t : Tables) where
-  pub ended_none : c.part ≡ 0 → ended c t ≡ stopped (answer 2 1)
-  ended_none e = rw (eq-eqb c.part 0)
-
-  pub ended_some : (c.part ≡ 0 → ⊥) → ended c t ≡ record { answer = accepted; tables = sized t c }
-  ended_some n = rw (ne_eqb c.part 0)
-
   module _ (s : List ℕ) (line at : ℕ) where
     pub lines_over : (left : ℕ) → left ≡ 0 → lines_from s left line at c t ≡ stopped (answer 3 line)
     unfolding lines_from

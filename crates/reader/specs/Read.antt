@@ -1,5 +1,7 @@
 -- What the contracts of the reader say in one name each: where a line may stand, counts within the limits, and what the tables hold at the end. Assumes nothing.
-use Rattle.std.specs.Prelude.{ℕ, ◌+◌, ◌≤◌, ◌<◌, max, ◌≡◌, refl, List, false, ltb, eqb, length, Ok, Err}
+use Rattle.std.specs.Prelude.{ℕ, ◌+◌, ◌≤◌, max, ◌≡◌, refl, Bool, true, false, List, [], ltb, eqb, length, Option, Some, None, Ok}
+use Rattle.rules.specs.declared.Key.{Key}
+use Rattle.rules.specs.declared.Key.TheVariants as K
 use Rattle.rules.specs.declared.Answer.{Answer}
 use Rattle.rules.specs.declared.Count.{Count}
 use Rattle.rules.specs.When.{when}
@@ -7,10 +9,9 @@ use Rattle.rules.specs.Limits.{limits}
 use Rattle.rules.specs.Text.Words.{byte_at}
 use Rattle.rules.specs.Text.Shape.{key_of, line_shape}
 use Rattle.rules.specs.Text.Layout.{Tables, nothing, zeros}
-use Rattle.rules.specs.Text.Fill.{fill_line}
+use Rattle.rules.specs.Text.Fill.{Filled, filled, Fields, fields, fill_line}
 use Rattle.rules.specs.Answers.{answer}
 use Rattle.rules.specs.Text.{Lined, lined, TextOut, stopped, lines_from, most_lines, read_text}
-use Rattle.once.specs.Once.{has_expr}
 use Rattle.once.proofs.Right.{Refuses}
 
 -- a place in a text that is not too long
@@ -41,18 +42,48 @@ pub record Fits (rows vars labels lines nodes : ℕ) : Type 0 where
 abbrev pub Within : Count → Type 0
 Within c = Fits c.rows c.vars c.labels c.lines c.nodes
 
--- a line at its place, and one of the body with room for it
+-- a line at its place
 pub record Ready (s : List ℕ) (at : ℕ) (c : Count) : Type 0 where
   pub placed : Placed s at
   pub within : Within c
 
-pub record Room (s : List ℕ) (at : ℕ) (c : Count) : Type 0 where
-  pub ready : Ready s at c
-  pub room : c.lines < limits.lines
+-- a line without expressions, and no label
+abbrev pub is_plain : Key → Bool
+is_plain K.Absent = true
+is_plain K.Ret = true
+is_plain K.Type = true
+is_plain K.Param = true
+is_plain K.Local = true
+is_plain K.Set = false
+is_plain K.Put = false
+is_plain K.Goto = true
+is_plain K.If = false
+is_plain K.IfImm = true
+is_plain K.IfTag = true
+is_plain K.IfInt = true
+is_plain K.Return = false
+is_plain K.Label = false
 
--- a line of the body without expressions, and no label
-abbrev pub Plain : ℕ → Type 0
-Plain k = (5 ≤ k) × ((k < 13) × (has_expr (key_of k) ≡ false))
+-- ---- what a line gives: its counts, or nothing where it passes a limit
+
+-- with the tables after it
+abbrev pub given : Option Count → Tables → Filled
+given (Some c) t = filled true c t
+given None t = filled false nothing zeros
+
+-- past a limit its counts and tables do not count
+abbrev pub kept : Filled → Filled
+kept (filled true c t) = filled true c t
+kept (filled false c t) = filled false nothing zeros
+
+-- the same of a row, whose fields are counted
+abbrev pub row_given : Option ℕ → List ℕ → Fields
+row_given (Some n) R = fields true n R
+row_given None R = fields false 0 []
+
+abbrev pub row_kept : Fields → Fields
+row_kept (fields true n R) = fields true n R
+row_kept (fields false n R) = fields false 0 []
 
 -- ---- a line
 

@@ -10,16 +10,18 @@ ghost use Rattle.rules.specs.Text.Words as words;
 ghost use Rattle.rules.specs.Text.Shape as shapes;
 ghost use Rattle.rules.specs.Text.Layout as layout;
 ghost use Rattle.rules.specs.Text.Fill as fills;
+ghost use Rattle.rules.specs.declared.Key.TheVariants as keys;
 ghost use Rattle.program.specs.Lines.{tables_of};
 ghost use Rattle.once.specs.Once.{has_expr};
 ghost use Rattle.reader.specs.Labels.{entered, tag_once, offset_once, entry_once, entries_once};
-ghost use Rattle.reader.specs.Read.{Placed, Near, Worded, Within, Ready, Room, Plain, Late, settled, closed, read_over, Holds};
+ghost use Rattle.reader.specs.Read.{Placed, Near, Worded, Within, Ready, is_plain, Late, given, kept, row_given, row_kept, settled, closed, read_over, Holds};
 
 use once::line_once;
 use program::{clear, put_entry, put_field, put_label_line, put_line, put_psi, put_sizes, put_var};
-use rules::{Answer, Count, Filling, Limits, Next, Reading};
+use rules::{Answer, Count, Key, Limits, Next, Reading};
 use shape::{
-    between, boxed_at, in_order, key_at, kind_word, line_shape, offset_at, part_of, psi_at, tag_at,
+    between, boxed_at, in_order, key_at, key_of, kind_word, line_shape, offset_at, part_of, psi_at,
+    tag_at,
 };
 use text::{byte_at, next_of, number_at, plain_at, value_of, var_at};
 
@@ -36,82 +38,12 @@ struct Word {
     past: usize,
 }
 
-// Within the limits or not, and the counts after it.
-#[derive(Drop)]
-struct Fill {
-    ok: bool,
-    count: Count,
-}
-
-// The same of the fields of a row: how many the text has by now.
-#[derive(Drop)]
-struct Row {
-    ok: bool,
-    total: usize,
-}
-
 // A line: its answer (0 goes on), the place after it, the counts.
 #[derive(Drop)]
 struct Lined {
     answer: u32,
     next: usize,
     count: Count,
-}
-
-// ---- counts
-
-fn in_part(c: Count, p: u32) -> Count
-    ensures { result ≡ layout.in_part c p }
-{
-    let mut d = c;
-    d.part = p;
-    d
-}
-
-fn with_ret(c: Count, k: u32) -> Count
-    ensures { result ≡ layout.with_ret c k }
-{
-    let mut d = c;
-    d.ret = k;
-    d
-}
-
-fn one_row(c: Count, total: usize) -> Count
-    requires { c.rows < limits.rows }
-    ensures { result ≡ layout.one_row c total }
-{
-    let mut d = c;
-    d.rows = c.rows + 1;
-    d.fields = total;
-    d
-}
-
-fn one_var(c: Count) -> Count
-    requires { c.vars < limits.variables }
-    ensures { result ≡ layout.one_var c }
-{
-    let mut d = c;
-    d.vars = c.vars + 1;
-    d
-}
-
-fn one_label(c: Count) -> Count
-    requires { c.labels < limits.labels }
-    ensures { result ≡ layout.one_label c }
-{
-    let mut d = c;
-    d.labels = c.labels + 1;
-    d
-}
-
-fn one_line(c: Count, free: usize) -> Count
-    requires { c.lines < limits.lines }
-    ensures { result ≡ layout.one_line c free }
-{
-    let mut d = c;
-    d.lines = c.lines + 1;
-    d.nodes = free;
-    d
 }
 
 // ---- words
@@ -168,19 +100,16 @@ fn kind_code(s: &[u8], at: usize) -> Word
     requires { Placed s.now at }
     ensures { Worded s.now at (fills.kind_value s.now (shapes.kind_word s.now at)) (fills.kind_next s.now (shapes.kind_word s.now at)) result.value result.past }
 {
-    let k = kind_word(s, at);
-    match k {
+    match kind_word(s, at) {
         Err(p) => Word {
             value: 0,
             past: p + 1,
         },
-        Ok((which, n)) => {
-            if which == 0 {
-                return Word {
-                    value: 1,
-                    past: n + 1,
-                };
-            }
+        Ok((0, n)) => Word {
+            value: 1,
+            past: n + 1,
+        },
+        Ok((_, n)) => {
             let w = plain_word(s, n);
             Word {
                 value: w.value + 2,
@@ -193,47 +122,40 @@ fn kind_code(s: &[u8], at: usize) -> Word
 // ---- lines before the body
 
 #[tactic(auto, using(rules::specs::Text::Fill::filled), unfolding(rules::specs::Text::Fill::fill_ret))]
-fn fill_ret(s: &[u8], at: usize, c: Count) -> Fill
+fn fill_ret(s: &[u8], at: usize, c: Count) -> Count
     requires { Placed s.now at }
-    ensures { (t : layout.Tables) → fills.filled result.ok result.count t ≡ fills.fill_ret s.now at c t }
+    ensures { (t : layout.Tables) → fills.filled true result t ≡ fills.fill_ret s.now at c t }
 {
     let k = kind_code(s, at);
-    Fill {
-        ok: true,
-        count: with_ret(c, k.value),
-    }
+    Count { ret: k.value, ..c }
 }
 
-fn add_var(c: Count, kind: u32, how: u32, number: u32, vars: &mut [u32; 96]) -> Fill
-    ensures { (t : layout.Tables) → fills.filled result.ok result.count (layout.with_vars t vars.new) ≡ fills.add_var c (layout.with_vars t vars.old) kind how number }
+fn add_var(c: Count, kind: u32, how: u32, number: u32, vars: &mut [u32; 96]) -> Option<Count>
+    ensures { (t : layout.Tables) → given result (layout.with_vars t vars.new) ≡ kept (fills.add_var c (layout.with_vars t vars.old) kind how number) }
 {
-    if c.vars < Limits::VARIABLES {
-        put_var(vars, c.vars, kind, how, number);
-        Fill {
-            ok: true,
-            count: one_var(c),
-        }
-    } else {
-        Fill {
-            ok: false,
-            count: c,
-        }
+    if Limits::VARIABLES <= c.vars {
+        return None;
     }
+    put_var(vars, c.vars, kind, how, number);
+    Some(Count {
+        vars: c.vars + 1,
+        ..c
+    })
 }
 
 #[tactic(auto, unfolding(rules::specs::Text::Fill::fill_param))]
-fn fill_param(s: &[u8], at: usize, c: Count, vars: &mut [u32; 96]) -> Fill
+fn fill_param(s: &[u8], at: usize, c: Count, vars: &mut [u32; 96]) -> Option<Count>
     requires { Placed s.now at }
-    ensures { (t : layout.Tables) → fills.filled result.ok result.count (layout.with_vars t vars.new) ≡ fills.fill_param s.now at c (layout.with_vars t vars.old) }
+    ensures { (t : layout.Tables) → given result (layout.with_vars t vars.new) ≡ kept (fills.fill_param s.now at c (layout.with_vars t vars.old)) }
 {
     let k = kind_code(s, at);
     add_var(c, k.value, 1, 0, vars)
 }
 
 #[tactic(auto, unfolding(rules::specs::Text::Fill::fill_local))]
-fn fill_local(s: &[u8], at: usize, c: Count, vars: &mut [u32; 96]) -> Fill
+fn fill_local(s: &[u8], at: usize, c: Count, vars: &mut [u32; 96]) -> Option<Count>
     requires { Placed s.now at }
-    ensures { (t : layout.Tables) → fills.filled result.ok result.count (layout.with_vars t vars.new) ≡ fills.fill_local s.now at c (layout.with_vars t vars.old) }
+    ensures { (t : layout.Tables) → given result (layout.with_vars t vars.new) ≡ kept (fills.fill_local s.now at c (layout.with_vars t vars.old)) }
 {
     let k = kind_code(s, at);
     let n = number_word(s, k.past);
@@ -244,13 +166,7 @@ fn fill_local(s: &[u8], at: usize, c: Count, vars: &mut [u32; 96]) -> Fill
 fn fits(k: u8, o: u8, total: usize) -> bool
     ensures { result ≡ (ltb k limits.products && (ltb o limits.width && ltb total limits.fields)) }
 {
-    if Limits::PRODUCTS <= k as usize {
-        return false;
-    }
-    if Limits::WIDTH <= o as usize {
-        return false;
-    }
-    total < Limits::FIELDS
+    usize::from(k) < Limits::PRODUCTS && usize::from(o) < Limits::WIDTH && total < Limits::FIELDS
 }
 
 // The product and the field after the byte between two field rows: a comma, or a bar.
@@ -269,21 +185,22 @@ fn next_field(b: u64, o: u8) -> u8
 }
 
 // One turn a field row.
-fn fill_fields(s: &[u8], r: usize, total: usize, from: usize, rows: &mut [u32; 17536]) -> Row
-    ensures { fills.fields result.ok result.total rows.new ≡ fills.fill_fields s.now r 257 total rows.old 0 0 from }
+fn fill_fields(
+    s: &[u8],
+    r: usize,
+    total: usize,
+    from: usize,
+    rows: &mut [u32; 17536],
+) -> Option<usize>
+    ensures { row_given result rows.new ≡ row_kept (fills.fill_fields s.now r 257 total rows.old 0 0 from) }
 {
-    let mut left = FIELD_TURNS;
     let mut sum = total;
     let mut k: u8 = 0;
     let mut o: u8 = 0;
     let mut at = from;
-    while 0 < left {
-        left -= 1;
+    for _ in 0..FIELD_TURNS {
         if !fits(k, o, sum) {
-            return Row {
-                ok: false,
-                total: sum,
-            };
+            return None;
         }
         let q = plain_at(s, at);
         put_field(rows, r, k, o, value_of(q) as u32);
@@ -291,82 +208,79 @@ fn fill_fields(s: &[u8], r: usize, total: usize, from: usize, rows: &mut [u32; 1
         let n = next_of(q);
         let b = byte_at(s, n);
         if !between(b) {
-            return Row {
-                ok: true,
-                total: sum,
-            };
+            return Some(sum);
         }
         k = next_product(b, k);
         o = next_field(b, o);
         at = n + 1;
     }
-    Row {
-        ok: false,
-        total: sum,
-    }
+    None
 }
 
 #[tactic(auto, using(crate::proofs::Ways::no_products, crate::proofs::Ways::some_products))]
-fn fill_products(s: &[u8], r: usize, total: usize, at: usize, rows: &mut [u32; 17536]) -> Row
-    ensures { fills.fields result.ok result.total rows.new ≡ fills.fill_products s.now r total rows.old at }
+fn fill_products(
+    s: &[u8],
+    r: usize,
+    total: usize,
+    at: usize,
+    rows: &mut [u32; 17536],
+) -> Option<usize>
+    ensures { row_given result rows.new ≡ row_kept (fills.fill_products s.now r total rows.old at) }
 {
     if byte_at(s, at) == 10 {
-        return Row {
-            ok: true,
-            total: total,
-        };
+        return Some(total);
     }
     fill_fields(s, r, total, at, rows)
 }
 
 #[tactic(auto, using(crate::proofs::Ways::type_full, crate::proofs::Ways::type_room, rules::specs::Text::Fill::fields, rules::specs::Text::Fill::filled))]
-fn fill_type(s: &[u8], at: usize, c: Count, rows: &mut [u32; 17536]) -> Fill
+fn fill_type(s: &[u8], at: usize, c: Count, rows: &mut [u32; 17536]) -> Option<Count>
     requires { Placed s.now at }
-    ensures { (t : layout.Tables) → fills.filled result.ok result.count (layout.with_rows t rows.new) ≡ fills.fill_type s.now at c (layout.with_rows t rows.old) }
+    ensures { (t : layout.Tables) → given result (layout.with_rows t rows.new) ≡ kept (fills.fill_type s.now at c (layout.with_rows t rows.old)) }
 {
     if Limits::ROWS <= c.rows {
-        return Fill {
-            ok: false,
-            count: c,
-        };
+        return None;
     }
     let p = psi_word(s, at);
     put_psi(rows, c.rows, p.value);
-    let f = fill_products(s, c.rows, c.fields, p.past, rows);
-    Fill {
-        ok: f.ok,
-        count: one_row(c, f.total),
-    }
+    let fields = fill_products(s, c.rows, c.fields, p.past, rows)?;
+    Some(Count {
+        rows: c.rows + 1,
+        fields,
+        ..c
+    })
 }
 
 // ---- lines of the body
 
-// A line without an expression.
-#[tactic(auto, using(rules::specs::Text::Fill::filled), unfolding(rules::specs::Text::Fill::plain_line))]
-fn plain_line(c: Count, kind: u32, l: u32, v: u32, w: u32, body: &mut [u32; 2560]) -> Fill
-    requires { c.lines < limits.lines }
-    ensures { (t : layout.Tables) → fills.filled result.ok result.count (layout.with_body t body.new) ≡ fills.plain_line c (layout.with_body t body.old) kind l v w }
+// A line without an expression, if there is room for it.
+#[tactic(auto, using(crate::proofs::Ways::no_room, crate::proofs::Ways::in_room), unfolding(rules::specs::Text::Fill::plain_line))]
+fn plain_line(c: Count, kind: u32, l: u32, v: u32, w: u32, body: &mut [u32; 2560]) -> Option<Count>
+    ensures { (t : layout.Tables) → given result (layout.with_body t body.new) ≡ kept (fills.one_more c (layout.with_body t body.old) (fills.plain_line c (layout.with_body t body.old) kind l v w)) }
 {
-    put_line(body, c.lines, kind, l, v, w, 0);
-    Fill {
-        ok: true,
-        count: one_line(c, c.nodes),
+    if Limits::LINES <= c.lines {
+        return None;
     }
+    put_line(body, c.lines, kind, l, v, w, 0);
+    Some(Count {
+        lines: c.lines + 1,
+        ..c
+    })
 }
 
 #[tactic(auto, unfolding(rules::specs::Text::Fill::fill_goto))]
-fn fill_goto(s: &[u8], at: usize, c: Count, body: &mut [u32; 2560]) -> Fill
-    requires { Room s.now at c }
-    ensures { (t : layout.Tables) → fills.filled result.ok result.count (layout.with_body t body.new) ≡ fills.fill_goto s.now at c (layout.with_body t body.old) }
+fn fill_goto(s: &[u8], at: usize, c: Count, body: &mut [u32; 2560]) -> Option<Count>
+    requires { Placed s.now at }
+    ensures { (t : layout.Tables) → given result (layout.with_body t body.new) ≡ kept (fills.one_more c (layout.with_body t body.old) (fills.fill_goto s.now at c (layout.with_body t body.old))) }
 {
     let l = plain_word(s, at);
     plain_line(c, 3, l.value, 0, 0, body)
 }
 
 #[tactic(auto, unfolding(rules::specs::Text::Fill::fill_ifimm))]
-fn fill_ifimm(s: &[u8], at: usize, c: Count, body: &mut [u32; 2560]) -> Fill
-    requires { Room s.now at c }
-    ensures { (t : layout.Tables) → fills.filled result.ok result.count (layout.with_body t body.new) ≡ fills.fill_ifimm s.now at c (layout.with_body t body.old) }
+fn fill_ifimm(s: &[u8], at: usize, c: Count, body: &mut [u32; 2560]) -> Option<Count>
+    requires { Placed s.now at }
+    ensures { (t : layout.Tables) → given result (layout.with_body t body.new) ≡ kept (fills.one_more c (layout.with_body t body.old) (fills.fill_ifimm s.now at c (layout.with_body t body.old))) }
 {
     let l = plain_word(s, at);
     let v = var_word(s, l.past);
@@ -375,9 +289,9 @@ fn fill_ifimm(s: &[u8], at: usize, c: Count, body: &mut [u32; 2560]) -> Fill
 
 // `iftag=`, `ifint=`
 #[tactic(auto, unfolding(rules::specs::Text::Fill::fill_test))]
-fn fill_test(kind: u32, s: &[u8], at: usize, c: Count, body: &mut [u32; 2560]) -> Fill
-    requires { Room s.now at c }
-    ensures { (t : layout.Tables) → fills.filled result.ok result.count (layout.with_body t body.new) ≡ fills.fill_test kind s.now at c (layout.with_body t body.old) }
+fn fill_test(kind: u32, s: &[u8], at: usize, c: Count, body: &mut [u32; 2560]) -> Option<Count>
+    requires { Placed s.now at }
+    ensures { (t : layout.Tables) → given result (layout.with_body t body.new) ≡ kept (fills.one_more c (layout.with_body t body.old) (fills.fill_test kind s.now at c (layout.with_body t body.old))) }
 {
     let l = plain_word(s, at);
     let v = var_word(s, l.past);
@@ -387,63 +301,31 @@ fn fill_test(kind: u32, s: &[u8], at: usize, c: Count, body: &mut [u32; 2560]) -
 
 // ---- a line by its key
 
-#[tactic(auto, unfolding(rules::specs::Text::Fill::fill_line, rules::specs::Text::Shape::key_of))]
-fn header_line(
-    s: &[u8],
-    k: u64,
-    at: usize,
-    c: Count,
-    rows: &mut [u32; 17536],
-    vars: &mut [u32; 96],
-) -> Fill
-    requires { Placed s.now at × ((1 ≤ k) × (k < 5)) }
-    ensures { (t : layout.Tables) → fills.filled result.ok result.count (layout.with_vars (layout.with_rows t rows.new) vars.new) ≡ fills.fill_line s.now (shapes.key_of k) at c (layout.with_vars (layout.with_rows t rows.old) vars.old) }
-{
-    match k {
-        1 => fill_ret(s, at, c),
-        2 => fill_type(s, at, c, rows),
-        3 => fill_param(s, at, c, vars),
-        _ => fill_local(s, at, c, vars),
-    }
-}
-
-#[tactic(auto, using(crate::proofs::Once::only_ifint, crate::proofs::Ways::in_body), unfolding(rules::specs::Text::Fill::fill_line, rules::specs::Text::Shape::key_of))]
-fn body_line(s: &[u8], k: u64, at: usize, c: Count, body: &mut [u32; 2560]) -> Fill
-    requires { Room s.now at c × Plain k }
-    ensures { (t : layout.Tables) → fills.filled result.ok result.count (layout.with_body t body.new) ≡ fills.fill_line s.now (shapes.key_of k) at c (layout.with_body t body.old) }
-{
-    match k {
-        7 => fill_goto(s, at, c, body),
-        9 => fill_ifimm(s, at, c, body),
-        10 => fill_test(6, s, at, c, body),
-        _ => fill_test(7, s, at, c, body),
-    }
-}
-
 // A line without expressions, and no label.
-#[tactic(auto, using(crate::proofs::Ways::too_many))]
+#[tactic(auto, unfolding(rules::specs::Text::Fill::fill_line))]
 fn fill_line(
     s: &[u8],
-    k: u64,
+    key: Key,
     at: usize,
     c: Count,
     rows: &mut [u32; 17536],
     vars: &mut [u32; 96],
     body: &mut [u32; 2560],
-) -> Fill
-    requires { Ready s.now at c × ((1 ≤ k) × ((k < 13) × (has_expr (shapes.key_of k) ≡ false))) }
-    ensures { (Z N L : List ℕ) → fills.filled result.ok result.count (tables_of Z N rows.new vars.new L body.new) ≡ fills.fill_line s.now (shapes.key_of k) at c (tables_of Z N rows.old vars.old L body.old) }
+) -> Option<Count>
+    requires { Placed s.now at × (is_plain key ≡ true) }
+    ensures { (Z N L : List ℕ) → given result (tables_of Z N rows.new vars.new L body.new) ≡ kept (fills.fill_line s.now key at c (tables_of Z N rows.old vars.old L body.old)) }
 {
-    if k < 5 {
-        return header_line(s, k, at, c, rows, vars);
+    match key {
+        Key::Ret => Some(fill_ret(s, at, c)),
+        Key::Type => fill_type(s, at, c, rows),
+        Key::Param => fill_param(s, at, c, vars),
+        Key::Local => fill_local(s, at, c, vars),
+        Key::Goto => fill_goto(s, at, c, body),
+        Key::IfImm => fill_ifimm(s, at, c, body),
+        Key::IfTag => fill_test(6, s, at, c, body),
+        Key::IfInt => fill_test(7, s, at, c, body),
+        _ => None,
     }
-    if Limits::LINES <= c.lines {
-        return Fill {
-            ok: false,
-            count: c,
-        };
-    }
-    body_line(s, k, at, c, body)
 }
 
 // ---- a line, whole
@@ -452,24 +334,9 @@ fn refused(answer: u32, next: usize, c: Count) -> Lined
     ensures { (t : layout.Tables) → texts.lined result.answer result.next result.count t ≡ texts.lined answer next c t }
 {
     Lined {
-        answer: answer,
-        next: next,
+        answer,
+        next,
         count: c,
-    }
-}
-
-fn limited(k: u64, next: usize, f: Fill) -> Lined
-    ensures { (t : layout.Tables) → texts.lined result.answer result.next result.count t ≡ texts.limited k next (fills.filled f.ok f.count t) }
-{
-    let c = f.count;
-    if f.ok {
-        Lined {
-            answer: 0,
-            next: next,
-            count: in_part(c, part_of(k)),
-        }
-    } else {
-        refused(3, next, c)
     }
 }
 
@@ -484,14 +351,23 @@ fn shaped_line(
     vars: &mut [u32; 96],
     body: &mut [u32; 2560],
 ) -> Lined
-    requires { Ready s.now at c × ((1 ≤ k) × ((k < 13) × (has_expr (shapes.key_of k) ≡ false))) }
-    ensures { (Z N L : List ℕ) → texts.lined result.answer result.next result.count (tables_of Z N rows.new vars.new L body.new) ≡ texts.shaped s.now k at c (tables_of Z N rows.old vars.old L body.old) (Ok n) }
+    requires { Ready s.now at c × (is_plain (shapes.key_of k) ≡ true) }
+    ensures { (Z N L : List ℕ) → settled (texts.lined result.answer result.next result.count (tables_of Z N rows.new vars.new L body.new)) ≡ settled (texts.shaped s.now k at c (tables_of Z N rows.old vars.old L body.old) (Ok n)) }
 {
     if byte_at(s, n) != 10 {
         return refused(2, n, c);
     }
-    let f = fill_line(s, k, at, c, rows, vars, body);
-    limited(k, n + 1, f)
+    match fill_line(s, key_of(k), at, c, rows, vars, body) {
+        Some(d) => Lined {
+            answer: 0,
+            next: n + 1,
+            count: Count {
+                part: part_of(k),
+                ..d
+            },
+        },
+        None => refused(3, n + 1, c),
+    }
 }
 
 // A line that could not be read at once: its shape is wrong (2), or it passes a limit (3).
@@ -527,7 +403,12 @@ fn expr_line(
         Some((n, f)) => Lined {
             answer: 0,
             next: n + 1,
-            count: in_part(one_line(c, f), part_of(k)),
+            count: Count {
+                part: part_of(k),
+                lines: c.lines + 1,
+                nodes: f,
+                ..c
+            },
         },
         None => late(s, k, at, c),
     }
@@ -548,13 +429,9 @@ fn tag_once(
 ) -> Next
     ensures { entered result labels.new ≡ tag_once s.now l v b i at labels.old }
 {
-    match tag_at(s, at) {
-        Err(p) => Err(p),
-        Ok((t, n)) => {
-            put_entry(labels, l, v, b, i, t);
-            Ok(n)
-        }
-    }
+    let (t, n) = tag_at(s, at)?;
+    put_entry(labels, l, v, b, i, t);
+    Ok(n)
 }
 
 // I,T
@@ -562,15 +439,11 @@ fn tag_once(
 fn offset_once(s: &[u8], l: usize, v: usize, b: u64, at: usize, labels: &mut [u64; 6208]) -> Next
     ensures { entered result labels.new ≡ offset_once s.now l v b at labels.old }
 {
-    match offset_at(s, at) {
-        Err(p) => Err(p),
-        Ok((i, n)) => {
-            if byte_at(s, n) != 44 {
-                return Err(n);
-            }
-            tag_once(s, l, v, b, i, n + 1, labels)
-        }
+    let (i, n) = offset_at(s, at)?;
+    if byte_at(s, n) != 44 {
+        return Err(n);
     }
+    tag_once(s, l, v, b, i, n + 1, labels)
 }
 
 // B,I,T
@@ -578,15 +451,11 @@ fn offset_once(s: &[u8], l: usize, v: usize, b: u64, at: usize, labels: &mut [u6
 fn entry_once(s: &[u8], l: usize, v: usize, at: usize, labels: &mut [u64; 6208]) -> Next
     ensures { entered result labels.new ≡ entry_once s.now l v at labels.old }
 {
-    match boxed_at(s, at) {
-        Err(p) => Err(p),
-        Ok((b, n)) => {
-            if byte_at(s, n) != 44 {
-                return Err(n);
-            }
-            offset_once(s, l, v, b, n + 1, labels)
-        }
+    let (b, n) = boxed_at(s, at)?;
+    if byte_at(s, n) != 44 {
+        return Err(n);
     }
+    offset_once(s, l, v, b, n + 1, labels)
 }
 
 // One turn an entry of label l.
@@ -595,26 +464,16 @@ fn entries_once(s: &[u8], l: usize, vars: usize, from: usize, labels: &mut [u64;
     requires { vars ≤ limits.variables }
     ensures { entered result labels.new ≡ entries_once s.now l vars 0 from labels.old }
 {
-    let mut more = vars;
-    let mut v = 0;
     let mut at = from;
-    while 0 < more {
-        more -= 1;
-        match entry_once(s, l, v, at, labels) {
-            Err(p) => {
-                return Err(p);
-            }
-            Ok(n) => {
-                if more == 0 {
-                    return Ok(n);
-                }
-                if byte_at(s, n) != 32 {
-                    return Err(n);
-                }
-                at = n + 1;
-                v += 1;
-            }
+    for v in 0..vars {
+        let n = entry_once(s, l, v, at, labels)?;
+        if v + 1 == vars {
+            return Ok(n);
         }
+        if byte_at(s, n) != 32 {
+            return Err(n);
+        }
+        at = n + 1;
     }
     Ok(at)
 }
@@ -623,19 +482,20 @@ fn entries_once(s: &[u8], l: usize, vars: usize, from: usize, labels: &mut [u64;
 #[tactic(auto, using(crate::proofs::Labels::labels_full, crate::proofs::Labels::lines_full))]
 fn label_line(
     s: &[u8],
+    k: u64,
     at: usize,
     c: Count,
     labels: &mut [u64; 6208],
     body: &mut [u32; 2560],
 ) -> Lined
-    requires { Within c }
-    ensures { (t : layout.Tables) → settled (texts.lined result.answer result.next result.count (layout.with_body (layout.with_labels t labels.new) body.new)) ≡ settled (texts.shaped s.now 13 at c (layout.with_body (layout.with_labels t labels.old) body.old) (shapes.line_shape s.now c.vars (shapes.key_of 13) at)) }
+    requires { Within c × (shapes.key_of k ≡ keys.Label) }
+    ensures { (t : layout.Tables) → settled (texts.lined result.answer result.next result.count (layout.with_body (layout.with_labels t labels.new) body.new)) ≡ settled (texts.shaped s.now k at c (layout.with_body (layout.with_labels t labels.old) body.old) (shapes.line_shape s.now c.vars (shapes.key_of k) at)) }
 {
     if Limits::LINES <= c.lines {
-        return late(s, 13, at, c);
+        return late(s, k, at, c);
     }
     if Limits::LABELS <= c.labels {
-        return late(s, 13, at, c);
+        return late(s, k, at, c);
     }
     put_label_line(labels, c.labels, c.lines as u64 + 1);
     let e = entries_once(s, c.labels, c.vars, at, labels);
@@ -649,22 +509,14 @@ fn label_line(
             Lined {
                 answer: 0,
                 next: n + 1,
-                count: in_part(one_label(one_line(c, c.nodes)), part_of(13)),
+                count: Count {
+                    part: part_of(k),
+                    labels: c.labels + 1,
+                    lines: c.lines + 1,
+                    ..c
+                },
             }
         }
-    }
-}
-
-#[tactic(auto, using(once::proofs::Keys::other_keys), unfolding(once::specs::Once::has_expr, rules::specs::Text::Shape::key_of))]
-fn has_expr(k: u64) -> bool
-    ensures { result ≡ has_expr (shapes.key_of k) }
-{
-    match k {
-        5 => true,
-        6 => true,
-        8 => true,
-        12 => true,
-        _ => false,
     }
 }
 
@@ -681,22 +533,19 @@ fn keyed_line(
     labels: &mut [u64; 6208],
     body: &mut [u32; 2560],
 ) -> Lined
-    requires { Ready s.now at c × ((1 ≤ k) × (k ≤ 13)) }
+    requires { Ready s.now at c }
     ensures { (Z : List ℕ) → settled (texts.lined result.answer result.next result.count (tables_of Z nodes.new rows.new vars.new labels.new body.new)) ≡ settled (texts.keyed s.now start c (tables_of Z nodes.old rows.old vars.old labels.old body.old) (Ok (k, at))) }
 {
     if !in_order(c.part, k) {
         return refused(2, start, c);
     }
-    if has_expr(k) {
-        return expr_line(s, k, at, c, nodes, body);
-    }
-    if k == 13 {
-        return label_line(s, at, c, labels, body);
-    }
-    let x = line_shape(s, c.vars, k, at);
-    match x {
-        Ok(n) => shaped_line(s, k, at, n, c, rows, vars, body),
-        Err(p) => refused(2, p, c),
+    match key_of(k) {
+        Key::Set | Key::Put | Key::If | Key::Return => expr_line(s, k, at, c, nodes, body),
+        Key::Label => label_line(s, k, at, c, labels, body),
+        _ => match line_shape(s, c.vars, k, at) {
+            Ok(n) => shaped_line(s, k, at, n, c, rows, vars, body),
+            Err(p) => refused(2, p, c),
+        },
     }
 }
 
@@ -756,30 +605,23 @@ fn lines(
     requires { length s.now ≤ limits.bytes }
     ensures { closed result (tables_of size.new nodes.new rows.new vars.new labels.new body.new) ≡ texts.lines_from s.now (texts.most_lines + 1) 1 0 layout.nothing (tables_of size.old nodes.old rows.old vars.old labels.old body.old) }
 {
-    let mut left = LINE_TURNS;
-    let mut line = 1;
     let mut at = 0;
     let mut c = nothing();
-    while 0 < left {
-        left -= 1;
+    for line in 1..LINE_TURNS + 1 {
         if s.len() <= at {
             return ended(c, size);
         }
         let r = line_at(s, at, c, nodes, rows, vars, labels, body);
         let number = r.answer;
         if number != 0 {
-            return Answer {
-                number: number,
-                line: line,
-            };
+            return Answer { number, line };
         }
-        line += 1;
         at = r.next;
         c = r.count;
     }
     Answer {
         number: 3,
-        line: line,
+        line: LINE_TURNS + 1,
     }
 }
 

@@ -10,5 +10,5 @@ plain_word-w-requires c = record { near = omega (arith, kind_near c.args.s.now c
 pub overflow_add-result-in-Ok : goal.overflow_add-result-in-Ok
 overflow_add-result-in-Ok c = omega (arith, value_most (plain_reads c.args.s.now c.in-Ok.n), c.plain_word-w.ensures.gives)
 
-pub returns-else-which-eq0 : goal.returns-else-which-eq0
-returns-else-which-eq0 c = kind_value_lem c.args.s.now c.args.at c.in-Ok.which c.in-Ok.n c.in-Ok.ensures c.if-which-eq0.false c.plain_word-w.ensures
+pub returns-in-Ok : goal.returns-in-Ok
+returns-in-Ok c = kind_value_lem c.args.s.now c.args.at c.in-Ok.field-0-0 c.in-Ok.n c.in-Ok.ensures c.in-Ok.field-0-0-test.1 c.plain_word-w.ensures

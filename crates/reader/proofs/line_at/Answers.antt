@@ -8,7 +8,7 @@ use Rattle.reader.specs.Read.{settled}
 use Rattle.reader.proofs.line_at.Goals as goal
 
 pub keyed_line-requires : goal.keyed_line-requires
-keyed_line-requires c = let g = got (key_reads c.args.s.now c.args.at) (sym c.in-Ok.ensures) in (record { placed = record { inside = g.ends; short = c.requires.placed.short }; within = c.requires.within }, (g.low, g.high))
+keyed_line-requires c = let g = got (key_reads c.args.s.now c.args.at) (sym c.in-Ok.ensures) in record { placed = record { inside = g.ends; short = c.requires.placed.short }; within = c.requires.within }
 
 pub returns-in-Err : goal.returns-in-Err
 unfolding line_at
