@@ -2,21 +2,21 @@
 use native.Mathlib.Omega.{arith}
 use borrow.Author.Tests.{eq-eqb, ne_eqb}
 use Rattle.std.specs.Prelude.{◌+◌, ◌<◌, ◌≡◌, Some, None, Ok, Err}
-use Rattle.rules.specs.Prelude.{ℕ, Bool, true, false, List, refl, sym, ap, subst, ◌∙◌, eqb, length}
+use Rattle.rules.specs.Prelude.{ℕ, Bool, true, false, List, refl, sym, ap, subst, ◌∙◌, eqb, ltb, length}
 use Rattle.rules.specs.declared.Count.{Count}
-use Rattle.rules.specs.Text.Words.{Next}
+use Rattle.rules.specs.Text.Words.{Next, Reading}
 use Rattle.rules.specs.Text.Fill.{Filling}
 use Rattle.rules.proofs.Laws.Tests.{by_when}
-use Rattle.rules.specs.Text.{TextOut, Lined, lined, limited, shaped, and_line}
+use Rattle.rules.specs.Text.{TextOut, Lined, lined, limited, shaped, keyed, line_at, and_line}
 use Rattle.rules.specs.Text.Words.{byte_at}
-use Rattle.rules.specs.Text.Shape.{key_of, part_of, line_shape}
+use Rattle.rules.specs.Text.Shape.{key_at, key_of, in_order, part_of, line_shape}
 use Rattle.rules.specs.Text.Layout.{Tables, with_nodes, with_body, one_line, in_part, nothing, zeros}
 use Rattle.rules.specs.Text.Fill.{Filled, filled, fill_line}
 use Rattle.text.proofs.Laws.{inside}
 use Rattle.once.specs.Once.{Onced, once, line_once, has_expr}
 use Rattle.once.proofs.Keys.{none}
 use Rattle.once.proofs.Right.{Refuses, Told, line_told}
-use Rattle.reader.specs.Read.{Within, Late, given, kept, settled}
+use Rattle.reader.specs.Read.{Within, Late, given, handed, kept, settled}
 use Rattle.reader.proofs.Laws.{FitsLined}
 
 -- ---- a line for those after it
@@ -36,6 +36,38 @@ module _ (a n : ℕ) (c : Count) (t : Tables) where
 -- a refusal is its number alone
 pub same_number : (a n m : ℕ) (c d : Count) (t u : Tables) → (a ≡ 0 → ⊥) → settled (lined a n c t) ≡ settled (lined a m d u)
 same_number a n m c d t u z = settled_off a n c t z ∙ sym (settled_off a m d u z)
+
+-- an answer that is handed on is not 0: a line with the answer 0 is in a part
+abbrev Parted : Lined → Type 0
+Parted (lined a n c t) = a ≡ 0 → 0 < c.part
+
+limited_parted : (k n : ℕ) (x : Filled) → Parted (limited k n x)
+unfolding part_of
+limited_parted k n (filled true d u) = λ _. by_when (λ (m : ℕ). 0 < m) (ltb k 3) _ _ (λ _. omega arith) (λ _. by_when (λ (m : ℕ). 0 < m) (ltb k 5) _ _ (λ _. omega arith) (λ _. omega arith))
+limited_parted k n (filled false d u) = λ e. absurd (omega (arith, e))
+
+module _ (s : List ℕ) (c : Count) (t : Tables) where
+  shaped_parted : (k at : ℕ) (x : Next) → Parted (shaped s k at c t x)
+  shaped_parted k at (Err p) = λ e. absurd (omega (arith, e))
+  shaped_parted k at (Ok n) = by_when Parted (eqb (byte_at s n) 10) _ _ (λ _. limited_parted k (n + 1) (fill_line s (key_of k) at c t)) (λ _ e. absurd (omega (arith, e)))
+
+  keyed_parted : (start : ℕ) (r : Reading) → Parted (keyed s start c t r)
+  keyed_parted start (Err p) = λ e. absurd (omega (arith, e))
+  keyed_parted start (Ok (k, n)) = by_when Parted (in_order c.part k) _ _ (λ _. shaped_parted k n (line_shape s c.vars (key_of k) n)) (λ _ e. absurd (omega (arith, e)))
+
+settled_parted : (x : Lined) → Parted x → Parted (settled x)
+unfolding settled
+settled_parted (lined a n c t) h =
+    by_when Parted (eqb a 0) _ _ (λ _. h) (λ z e. no_number a e z)
+  where
+    no_number : (m : ℕ) → m ≡ 0 → eqb m 0 ≡ false → 0 < 0
+    no_number m e z = none (sym (eq-eqb m 0 e) ∙ z)
+
+pub refusal : (s : List ℕ) (at : ℕ) (c : Count) (t u : Tables) (a : ℕ) → settled (handed (Err a) u) ≡ settled (line_at s at c t) → a ≡ 0 → ⊥
+unfolding line_at
+refusal s at c t u a q e =
+    let h : Parted (settled (lined a 0 nothing u)) = subst Parted (sym q) (settled_parted _ (keyed_parted s c t at (key_at s at))) in
+    omega (arith, subst Parted (settled_on a 0 nothing u e) h e)
 
 pub settled_fits : (x : Lined) → FitsLined x → FitsLined (settled x)
 unfolding settled

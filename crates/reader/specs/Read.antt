@@ -1,5 +1,5 @@
 -- What the contracts of the reader say in one name each: where a line may stand, counts within the limits, and what the tables hold at the end. Assumes nothing.
-use Rattle.std.specs.Prelude.{ℕ, ◌+◌, ◌≤◌, max, ◌≡◌, refl, Bool, true, false, List, [], ltb, eqb, length, Option, Some, None, Ok}
+use Rattle.std.specs.Prelude.{ℕ, ◌+◌, ◌≤◌, max, ◌≡◌, refl, Bool, true, false, List, [], ltb, eqb, length, Option, Some, None, Result, Ok, Err}
 use Rattle.rules.specs.declared.Key.{Key}
 use Rattle.rules.specs.declared.Key.TheVariants as K
 use Rattle.rules.specs.declared.Answer.{Answer}
@@ -90,6 +90,11 @@ row_kept (fields false n R) = fields false 0 []
 -- its place, counts and tables count for an answer 0 only
 unfoldable pub settled : Lined → Lined
 settled (lined a n c t) = when (eqb a 0) (λ _. lined a n c t) (λ _. lined a 0 nothing zeros)
+
+-- a line as it is handed on: the place after it and the counts, or an answer's number; with the tables after it
+abbrev pub handed : Result (ℕ × Count) ℕ → Tables → Lined
+handed (Ok (n, c)) t = lined 0 n c t
+handed (Err a) t = lined a 0 nothing t
 
 -- a line of the right shape passes a limit
 abbrev pub Late : List ℕ → ℕ → ℕ → Count → Tables → Type 0

@@ -14,7 +14,7 @@ ghost use Rattle.rules.specs.declared.Key.TheVariants as keys;
 ghost use Rattle.program.specs.Lines.{tables_of};
 ghost use Rattle.once.specs.Once.{has_expr};
 ghost use Rattle.reader.specs.Labels.{entered, tag_once, offset_once, entry_once, entries_once};
-ghost use Rattle.reader.specs.Read.{Placed, Near, Worded, Within, Ready, is_plain, Late, given, kept, row_given, row_kept, settled, closed, read_over, Holds};
+ghost use Rattle.reader.specs.Read.{Placed, Near, Worded, Within, Ready, is_plain, Late, given, kept, row_given, row_kept, handed, settled, closed, read_over, Holds};
 
 use once::line_once;
 use program::{clear, put_entry, put_field, put_label_line, put_line, put_psi, put_sizes, put_var};
@@ -36,14 +36,6 @@ const LINE_TURNS: usize = 1 + Limits::ROWS + Limits::VARIABLES + Limits::LINES +
 struct Word {
     value: u32,
     past: usize,
-}
-
-// A line: its answer (0 goes on), the place after it, the counts.
-#[derive(Drop)]
-struct Lined {
-    answer: u32,
-    next: usize,
-    count: Count,
 }
 
 // ---- words
@@ -330,16 +322,6 @@ fn fill_line(
 
 // ---- a line, whole
 
-fn refused(answer: u32, next: usize, c: Count) -> Lined
-    ensures { (t : layout.Tables) → texts.lined result.answer result.next result.count t ≡ texts.lined answer next c t }
-{
-    Lined {
-        answer,
-        next,
-        count: c,
-    }
-}
-
 // A line without expressions, and no label, whose shape is right up to n.
 fn shaped_line(
     s: &[u8],
@@ -350,40 +332,33 @@ fn shaped_line(
     rows: &mut [u32; 17536],
     vars: &mut [u32; 96],
     body: &mut [u32; 2560],
-) -> Lined
+) -> Result<(usize, Count), u32>
     requires { Ready s.now at c × (is_plain (shapes.key_of k) ≡ true) }
-    ensures { (Z N L : List ℕ) → settled (texts.lined result.answer result.next result.count (tables_of Z N rows.new vars.new L body.new)) ≡ settled (texts.shaped s.now k at c (tables_of Z N rows.old vars.old L body.old) (Ok n)) }
+    ensures { (Z N L : List ℕ) → settled (handed result (tables_of Z N rows.new vars.new L body.new)) ≡ settled (texts.shaped s.now k at c (tables_of Z N rows.old vars.old L body.old) (Ok n)) }
 {
     if byte_at(s, n) != 10 {
-        return refused(2, n, c);
+        return Err(2);
     }
-    match fill_line(s, key_of(k), at, c, rows, vars, body) {
-        Some(d) => Lined {
-            answer: 0,
-            next: n + 1,
-            count: Count {
-                part: part_of(k),
-                ..d
-            },
+    let Some(d) = fill_line(s, key_of(k), at, c, rows, vars, body) else {
+        return Err(3);
+    };
+    Ok((
+        n + 1,
+        Count {
+            part: part_of(k),
+            ..d
         },
-        None => refused(3, n + 1, c),
-    }
+    ))
 }
 
-// A line that could not be read at once: its shape is wrong (2), or it passes a limit (3).
-fn late(s: &[u8], k: u64, at: usize, c: Count) -> Lined
-    ensures { (t u : layout.Tables) → Late s.now k at c t → settled (texts.lined result.answer result.next result.count u) ≡ settled (texts.shaped s.now k at c t (shapes.line_shape s.now c.vars (shapes.key_of k) at)) }
+// The number of a line that could not be read at once: its shape is wrong (2), or it passes a limit (3).
+fn late(s: &[u8], k: u64, at: usize, c: Count) -> u32
+    ensures { (t u : layout.Tables) → Late s.now k at c t → settled (handed (Err result) u) ≡ settled (texts.shaped s.now k at c t (shapes.line_shape s.now c.vars (shapes.key_of k) at)) }
 {
-    let x = line_shape(s, c.vars, k, at);
-    match x {
-        Ok(n) => {
-            if byte_at(s, n) != 10 {
-                return refused(2, n, c);
-            }
-            refused(3, n, c)
-        }
-        Err(q) => refused(2, q, c),
-    }
+    let Ok(n) = line_shape(s, c.vars, k, at) else {
+        return 2;
+    };
+    if byte_at(s, n) == 10 { 3 } else { 2 }
 }
 
 // A line with expressions.
@@ -394,24 +369,22 @@ fn expr_line(
     c: Count,
     nodes: &mut [u64; 4096],
     body: &mut [u32; 2560],
-) -> Lined
+) -> Result<(usize, Count), u32>
     requires { Within c × (has_expr (shapes.key_of k) ≡ true) }
-    ensures { (t : layout.Tables) → settled (texts.lined result.answer result.next result.count (layout.with_body (layout.with_nodes t nodes.new) body.new)) ≡ settled (texts.shaped s.now k at c (layout.with_body (layout.with_nodes t nodes.old) body.old) (shapes.line_shape s.now c.vars (shapes.key_of k) at)) }
+    ensures { (t : layout.Tables) → settled (handed result (layout.with_body (layout.with_nodes t nodes.new) body.new)) ≡ settled (texts.shaped s.now k at c (layout.with_body (layout.with_nodes t nodes.old) body.old) (shapes.line_shape s.now c.vars (shapes.key_of k) at)) }
 {
-    let r = line_once(s, k, at, c.lines, c.nodes, nodes, body);
-    match r {
-        Some((n, f)) => Lined {
-            answer: 0,
-            next: n + 1,
-            count: Count {
-                part: part_of(k),
-                lines: c.lines + 1,
-                nodes: f,
-                ..c
-            },
+    let Some((n, f)) = line_once(s, k, at, c.lines, c.nodes, nodes, body) else {
+        return Err(late(s, k, at, c));
+    };
+    Ok((
+        n + 1,
+        Count {
+            part: part_of(k),
+            lines: c.lines + 1,
+            nodes: f,
+            ..c
         },
-        None => late(s, k, at, c),
-    }
+    ))
 }
 
 // ---- labels: an entry is written as soon as it is read, and a line feed stands after the last one
@@ -487,43 +460,35 @@ fn label_line(
     c: Count,
     labels: &mut [u64; 6208],
     body: &mut [u32; 2560],
-) -> Lined
+) -> Result<(usize, Count), u32>
     requires { Within c × (shapes.key_of k ≡ keys.Label) }
-    ensures { (t : layout.Tables) → settled (texts.lined result.answer result.next result.count (layout.with_body (layout.with_labels t labels.new) body.new)) ≡ settled (texts.shaped s.now k at c (layout.with_body (layout.with_labels t labels.old) body.old) (shapes.line_shape s.now c.vars (shapes.key_of k) at)) }
+    ensures { (t : layout.Tables) → settled (handed result (layout.with_body (layout.with_labels t labels.new) body.new)) ≡ settled (texts.shaped s.now k at c (layout.with_body (layout.with_labels t labels.old) body.old) (shapes.line_shape s.now c.vars (shapes.key_of k) at)) }
 {
-    if Limits::LINES <= c.lines {
-        return late(s, k, at, c);
-    }
-    if Limits::LABELS <= c.labels {
-        return late(s, k, at, c);
+    if Limits::LINES <= c.lines || Limits::LABELS <= c.labels {
+        return Err(late(s, k, at, c));
     }
     put_label_line(labels, c.labels, c.lines as u64 + 1);
-    let e = entries_once(s, c.labels, c.vars, at, labels);
-    match e {
-        Err(p) => refused(2, p, c),
-        Ok(n) => {
-            if byte_at(s, n) != 10 {
-                return refused(2, n, c);
-            }
-            put_line(body, c.lines, 9, c.labels as u32, 0, 0, 0);
-            Lined {
-                answer: 0,
-                next: n + 1,
-                count: Count {
-                    part: part_of(k),
-                    labels: c.labels + 1,
-                    lines: c.lines + 1,
-                    ..c
-                },
-            }
-        }
+    let Ok(n) = entries_once(s, c.labels, c.vars, at, labels) else {
+        return Err(2);
+    };
+    if byte_at(s, n) != 10 {
+        return Err(2);
     }
+    put_line(body, c.lines, 9, c.labels as u32, 0, 0, 0);
+    Ok((
+        n + 1,
+        Count {
+            part: part_of(k),
+            labels: c.labels + 1,
+            lines: c.lines + 1,
+            ..c
+        },
+    ))
 }
 
 // A line from the place after its key on.
 fn keyed_line(
     s: &[u8],
-    start: usize,
     k: u64,
     at: usize,
     c: Count,
@@ -532,20 +497,22 @@ fn keyed_line(
     vars: &mut [u32; 96],
     labels: &mut [u64; 6208],
     body: &mut [u32; 2560],
-) -> Lined
+) -> Result<(usize, Count), u32>
     requires { Ready s.now at c }
-    ensures { (Z : List ℕ) → settled (texts.lined result.answer result.next result.count (tables_of Z nodes.new rows.new vars.new labels.new body.new)) ≡ settled (texts.keyed s.now start c (tables_of Z nodes.old rows.old vars.old labels.old body.old) (Ok (k, at))) }
+    ensures { (Z : List ℕ) (start : ℕ) → settled (handed result (tables_of Z nodes.new rows.new vars.new labels.new body.new)) ≡ settled (texts.keyed s.now start c (tables_of Z nodes.old rows.old vars.old labels.old body.old) (Ok (k, at))) }
 {
     if !in_order(c.part, k) {
-        return refused(2, start, c);
+        return Err(2);
     }
     match key_of(k) {
         Key::Set | Key::Put | Key::If | Key::Return => expr_line(s, k, at, c, nodes, body),
         Key::Label => label_line(s, k, at, c, labels, body),
-        _ => match line_shape(s, c.vars, k, at) {
-            Ok(n) => shaped_line(s, k, at, n, c, rows, vars, body),
-            Err(p) => refused(2, p, c),
-        },
+        _ => {
+            let Ok(n) = line_shape(s, c.vars, k, at) else {
+                return Err(2);
+            };
+            shaped_line(s, k, at, n, c, rows, vars, body)
+        }
     }
 }
 
@@ -559,15 +526,14 @@ fn line_at(
     vars: &mut [u32; 96],
     labels: &mut [u64; 6208],
     body: &mut [u32; 2560],
-) -> Lined
+) -> Result<(usize, Count), u32>
     requires { Ready s.now at c }
-    ensures { (Z : List ℕ) → settled (texts.lined result.answer result.next result.count (tables_of Z nodes.new rows.new vars.new labels.new body.new)) ≡ settled (texts.line_at s.now at c (tables_of Z nodes.old rows.old vars.old labels.old body.old)) }
+    ensures { (Z : List ℕ) → settled (handed result (tables_of Z nodes.new rows.new vars.new labels.new body.new)) ≡ settled (texts.line_at s.now at c (tables_of Z nodes.old rows.old vars.old labels.old body.old)) }
 {
-    let w = key_at(s, at);
-    match w {
-        Ok((k, n)) => keyed_line(s, at, k, n, c, nodes, rows, vars, labels, body),
-        Err(p) => refused(2, p, c),
-    }
+    let Ok((k, n)) = key_at(s, at) else {
+        return Err(2);
+    };
+    keyed_line(s, k, n, c, nodes, rows, vars, labels, body)
 }
 
 // ---- the text, whole
@@ -611,13 +577,13 @@ fn lines(
         if s.len() <= at {
             return ended(c, size);
         }
-        let r = line_at(s, at, c, nodes, rows, vars, labels, body);
-        let number = r.answer;
-        if number != 0 {
-            return Answer { number, line };
+        match line_at(s, at, c, nodes, rows, vars, labels, body) {
+            Err(number) => return Answer { number, line },
+            Ok((next, d)) => {
+                at = next;
+                c = d;
+            }
         }
-        at = r.next;
-        c = r.count;
     }
     Answer {
         number: 3,
