@@ -3,8 +3,8 @@ use Rattle.rules.specs.declared.Key.{Key}
 use Rattle.rules.specs.declared.Key.TheVariants as K
 use native.Mathlib.Omega.{arith}
 use borrow.Author.Tests.{ltb-true, eq-eqb, ne_eqb}
-use Rattle.std.specs.Prelude.{◌+◌, ◌*◌, ◌≤◌, ◌<◌, ◌≡◌, Some, None, Ok, Err}
-use Rattle.rules.specs.Prelude.{ℕ, max, true, false, List, refl, ap, ◌∙◌, ltb, eqb, length, set}
+use Rattle.std.specs.Prelude.{◌+◌, ◌*◌, ◌≤◌, ◌<◌, ◌≡◌, Some, None, Result, Ok, Err}
+use Rattle.rules.specs.Prelude.{sym, ℕ, max, true, false, List, refl, ap, ◌∙◌, ltb, eqb, length, set}
 use Rattle.rules.specs.declared.Answer.{Answer}
 use Rattle.rules.specs.declared.Count.{Count}
 use Rattle.rules.specs.Text.Words.{Reading}
@@ -13,12 +13,14 @@ use Rattle.rules.proofs.Laws.Tests.{by_when}
 use Rattle.rules.specs.Text.{TextOut, Lined, lined, limited, shaped, keyed, line_at}
 use Rattle.rules.specs.Text.Words.{byte_at, value_of, next_of, plain_at, number_at, var_at}
 use Rattle.rules.specs.Text.Shape.{kind_word, psi_at, key_of, key_at, line_shape, in_order}
-use Rattle.rules.specs.Text.Layout.{Tables, row_width}
+use Rattle.rules.specs.Text.Layout.{Tables, zeros, row_width}
 use Rattle.rules.specs.Text.Fill.{Filled, filled, Out, out, expression, kind_value, kind_next, add_var, Fields, fields, fill_ret, fill_param, fill_local, fill_products, add_row, fill_type, plain_line, expr_line, fill_set, fill_put_two, fill_put, fill_goto, fill_if, fill_ifimm, fill_test, fill_return, fill_label, one_more, fill_line}
 use Rattle.text.proofs.Laws.{Reads, value_most, next_most}
 use Rattle.shape.proofs.Laws.{kind_reads}
 use Rattle.program.specs.Lines.{tables_of}
-use Rattle.reader.specs.Read.{Placed, Near, Worded, Fits, Within, Holds}
+use Rattle.reader.specs.Read.{Placed, Near, Worded, Fits, Within, left, Closed, Holds}
+use Rattle.once.proofs.Keys.{none}
+use Rattle.std.specs.Result.{is_err}
 use Rattle.reader.proofs.Exprs.{Ends, expression_ends}
 
 -- ---- words
@@ -138,18 +140,27 @@ module _ (s : List ℕ) (at : ℕ) (c : Count) (t : Tables) (h : Within c) where
 
 -- ---- what was read, taken apart
 
-pub holds : {o : TextOut} {a : Answer} {Z N R D L B : List ℕ} → ◌≡◌ {A = TextOut} (record { answer = a; tables = tables_of Z N R D L B }) o → Holds o a Z N R D L B
-holds e =
+pub refused_zeros : (r : Result Unit Answer) (t : Tables) → true ≡ is_err r → left r t ≡ zeros
+refused_zeros (Ok x) t e = none e
+refused_zeros (Err a) t e = refl
+
+pub right_left : (r : Result Unit Answer) (t : Tables) → false ≡ is_err r → left r t ≡ t
+right_left (Ok x) t e = refl
+right_left (Err a) t e = none (sym e)
+
+pub holds : {o : TextOut} {r : Result Unit Answer} {Z N R D L B : List ℕ} {t : Tables} → Closed r t o → tables_of Z N R D L B ≡ left r t → Holds o r Z N R D L B
+holds h e =
+    let q = e ∙ h.tables in
     record {
-      answer = ap (λ (x : TextOut). x.answer) e;
-      size = ap (λ (x : TextOut). x.tables.size) e;
-      nodes = ap (λ (x : TextOut). x.tables.nodes) e;
-      rows = ap (λ (x : TextOut). x.tables.rows) e;
-      vars = ap (λ (x : TextOut). x.tables.vars) e;
-      labels = ap (λ (x : TextOut). x.tables.labels) e;
-      body = ap (λ (x : TextOut). x.tables.body) e;
+      answer = h.answer;
+      size = ap (λ (x : Tables). x.size) q;
+      nodes = ap (λ (x : Tables). x.nodes) q;
+      rows = ap (λ (x : Tables). x.rows) q;
+      vars = ap (λ (x : Tables). x.vars) q;
+      labels = ap (λ (x : Tables). x.labels) q;
+      body = ap (λ (x : Tables). x.body) q;
     }
 
 -- for callers: the six tables at once
-pub tables_are_lem : {o : TextOut} {a : Answer} {Z N R D L B : List ℕ} → Holds o a Z N R D L B → tables_of Z N R D L B ≡ o.tables
+pub tables_are_lem : {o : TextOut} {a : Result Unit Answer} {Z N R D L B : List ℕ} → Holds o a Z N R D L B → tables_of Z N R D L B ≡ o.tables
 tables_are_lem h = λ i. tables_of (h.size i) (h.nodes i) (h.rows i) (h.vars i) (h.labels i) (h.body i)

@@ -2,7 +2,7 @@
 use native.Mathlib.Numerals.{sub-one}
 use native.Mathlib.Omega.{arith}
 use borrow.Author.Tests.{lt-ltb, le-ltb, eq-eqb, ne_eqb}
-use Rattle.std.specs.Prelude.{◌+◌, ◌-◌, ◌*◌, ◌≤◌, ◌<◌, ◌&&◌, ◌||◌, ◌≡◌, Ok}
+use Rattle.std.specs.Prelude.{◌+◌, ◌-◌, ◌*◌, ◌≤◌, ◌<◌, ◌&&◌, ◌||◌, ◌≡◌, Ok, Err}
 use Rattle.rules.specs.Prelude.{ℕ, zero, suc, Bool, true, false, List, refl, sym, ap, ◌∙◌, ltb, eqb, length, set}
 use Rattle.rules.specs.declared.Answer.{Answer}
 use Rattle.rules.specs.declared.Count.{Count}
@@ -15,7 +15,7 @@ use Rattle.rules.specs.Text.Words.{byte_at, value_of, next_of, plain_at}
 use Rattle.rules.specs.Text.Shape.{psi_at, key_of, in_order, line_shape}
 use Rattle.rules.specs.Text.Layout.{Tables, with_labels, nothing}
 use Rattle.rules.specs.Text.Fill.{Filled, filled, Fields, fields, put_field, more_fields, fill_fields, fill_products, add_row, fill_type, plain_line, fill_entries, add_label, fill_label, one_more, fill_line}
-use Rattle.reader.specs.Read.{settled, closed, read_over}
+use Rattle.reader.specs.Read.{settled, Closed, read_over}
 use Rattle.reader.proofs.Once.{line_settled}
 
 -- ---- lines before the body
@@ -147,10 +147,7 @@ module _ (c : Count) (t : Tables) where
         (sym (line_settled (lines_from s left (line + 1)) line x))
 
   module _ (rest : ℕ → Count → Tables → TextOut) (line n : ℕ) where
-    pub goes_on : (a : ℕ) → a ≡ 0 → and_line rest line (lined a n c t) ≡ rest n c t
-    goes_on a e = rw (eq-eqb a 0)
-
-    pub refused : (a : ℕ) → (a ≡ 0 → ⊥) → closed (answer a line) t ≡ and_line rest line (lined a n c t)
+    pub refused : (a : ℕ) → (a ≡ 0 → ⊥) → stopped (answer a line) ≡ and_line rest line (lined a n c t)
     refused a e = rw (ne_eqb a 0)
 
 module _ (s : List ℕ) (t : Tables) where
@@ -162,9 +159,5 @@ module _ (s : List ℕ) (t : Tables) where
   unfolding read_over
   not_long h = rw (le-ltb 32768 (length s))
 
-module _ (a : Answer) (t : Tables) where
-  pub closed_in : a.number ≡ 0 → closed a t ≡ record { answer = a; tables = t }
-  closed_in e = rw (eq-eqb a.number 0)
-
-  pub closed_out : (a.number ≡ 0 → ⊥) → closed a t ≡ stopped a
-  closed_out e = rw (ne_eqb a.number 0)
+pub closed_refused : (a : Answer) (t : Tables) → (a.number ≡ 0 → ⊥) → Closed (Err a) t (stopped a)
+closed_refused a t n = record { answer = rw (ne_eqb a.number 0) refl; tables = refl }

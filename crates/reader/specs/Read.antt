@@ -10,7 +10,7 @@ use Rattle.rules.specs.Text.Words.{byte_at}
 use Rattle.rules.specs.Text.Shape.{key_of, line_shape}
 use Rattle.rules.specs.Text.Layout.{Tables, nothing, zeros}
 use Rattle.rules.specs.Text.Fill.{Filled, filled, Fields, fields, fill_line}
-use Rattle.rules.specs.Answers.{answer}
+use Rattle.rules.specs.Answers.{answer, outcome}
 use Rattle.rules.specs.Text.{Lined, lined, TextOut, stopped, lines_from, most_lines, read_text}
 use Rattle.once.proofs.Right.{Refuses}
 
@@ -102,9 +102,15 @@ Late s k at c t = (n : ℕ) → line_shape s c.vars (key_of k) at ≡ Ok n → b
 
 -- ---- tables
 
--- the tables count for an answer 0 only
-abbrev pub closed : Answer → Tables → TextOut
-closed a t = when (eqb a.number 0) (λ _. record { answer = a; tables = t }) (λ _. stopped a)
+-- the tables count only where the text is not refused
+abbrev pub left : Result Unit Answer → Tables → Tables
+left (Ok x) t = t
+left (Err a) t = zeros
+
+-- an answer as it is handed on, and tables, are what a text says
+pub record Closed (r : Result Unit Answer) (t : Tables) (o : TextOut) : Type 0 where
+  pub answer : r ≡ outcome o.answer
+  pub tables : left r t ≡ o.tables
 
 -- a text read over what the tables hold, as the rules read it where they hold nothing
 unfoldable pub read_over : List ℕ → Tables → TextOut
@@ -117,9 +123,9 @@ pub over_zeros : (s : List ℕ) → read_over s zeros ≡ read_text s
 unfolding read_over read_text
 over_zeros s = refl
 
--- an answer and six tables are what a text says
-pub record Holds (o : TextOut) (a : Answer) (Z N R D L B : List ℕ) : Type 0 where
-  pub answer : a ≡ o.answer
+-- the same of six tables, which are all 0 where the text is refused
+pub record Holds (o : TextOut) (a : Result Unit Answer) (Z N R D L B : List ℕ) : Type 0 where
+  pub answer : a ≡ outcome o.answer
   pub size : Z ≡ o.tables.size
   pub nodes : N ≡ o.tables.nodes
   pub rows : R ≡ o.tables.rows

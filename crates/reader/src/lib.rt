@@ -14,7 +14,7 @@ ghost use Rattle.rules.specs.declared.Key.TheVariants as keys;
 ghost use Rattle.program.specs.Lines.{tables_of};
 ghost use Rattle.once.specs.Once.{has_expr};
 ghost use Rattle.reader.specs.Labels.{entered, tag_once, offset_once, entry_once, entries_once};
-ghost use Rattle.reader.specs.Read.{Placed, Near, Worded, Within, Ready, is_plain, Late, given, kept, row_given, row_kept, handed, settled, closed, read_over, Holds};
+ghost use Rattle.reader.specs.Read.{Placed, Near, Worded, Within, Ready, is_plain, Late, given, kept, row_given, row_kept, handed, settled, Closed, read_over, Holds};
 
 use once::line_once;
 use program::{clear, put_entry, put_field, put_label_line, put_line, put_psi, put_sizes, put_var};
@@ -539,12 +539,12 @@ fn line_at(
 // ---- the text, whole
 
 // After the last line the sizes are written, unless there was no line.
-fn ended(c: Count, size: &mut [u32; 6]) -> Answer
+fn ended(c: Count, size: &mut [u32; 6]) -> Result<(), Answer>
     requires { Within c }
-    ensures { (t : layout.Tables) → closed result (tables_of size.new t.nodes t.rows t.vars t.labels t.body) ≡ texts.ended c t }
+    ensures { (t : layout.Tables) → Closed result (tables_of size.new t.nodes t.rows t.vars t.labels t.body) (texts.ended c t) }
 {
     if c.part == 0 {
-        return Answer { number: 2, line: 1 };
+        return Err(Answer { number: 2, line: 1 });
     }
     put_sizes(
         size,
@@ -555,7 +555,7 @@ fn ended(c: Count, size: &mut [u32; 6]) -> Answer
         c.lines as u32,
         c.nodes as u32,
     );
-    Answer { number: 0, line: 0 }
+    Ok(())
 }
 
 // One turn a line.
@@ -567,9 +567,9 @@ fn lines(
     vars: &mut [u32; 96],
     labels: &mut [u64; 6208],
     body: &mut [u32; 2560],
-) -> Answer
+) -> Result<(), Answer>
     requires { length s.now ≤ limits.bytes }
-    ensures { closed result (tables_of size.new nodes.new rows.new vars.new labels.new body.new) ≡ texts.lines_from s.now (texts.most_lines + 1) 1 0 layout.nothing (tables_of size.old nodes.old rows.old vars.old labels.old body.old) }
+    ensures { Closed result (tables_of size.new nodes.new rows.new vars.new labels.new body.new) (texts.lines_from s.now (texts.most_lines + 1) 1 0 layout.nothing (tables_of size.old nodes.old rows.old vars.old labels.old body.old)) }
 {
     let mut at = 0;
     let mut c = nothing();
@@ -577,18 +577,19 @@ fn lines(
         if s.len() <= at {
             return ended(c, size);
         }
+        // Kept as it is: tried `map_err` with `?`, the proof did not close, at returns-in_err-next: a closure that captures `line` states what it gave in no form that an answer can name.
         match line_at(s, at, c, nodes, rows, vars, labels, body) {
-            Err(number) => return Answer { number, line },
             Ok((next, d)) => {
                 at = next;
                 c = d;
             }
+            Err(number) => return Err(Answer { number, line }),
         }
     }
-    Answer {
+    Err(Answer {
         number: 3,
         line: LINE_TURNS + 1,
-    }
+    })
 }
 
 fn nothing() -> Count
@@ -606,8 +607,7 @@ fn nothing() -> Count
     }
 }
 
-// Answers 1 to 3, or 0 with the program written over what the tables held. On a refusal they are all 0.
-#[tactic(auto, using(crate::proofs::Laws::holds, crate::proofs::Ways::closed_in, crate::proofs::Ways::closed_out, crate::proofs::Ways::not_long, crate::proofs::Ways::too_long))]
+// The program is written over what the tables held, or the text is refused with an answer 1 to 3; then they are all 0.
 pub fn read(
     s: &[u8],
     size: &mut [u32; 6],
@@ -616,15 +616,15 @@ pub fn read(
     vars: &mut [u32; 96],
     labels: &mut [u64; 6208],
     body: &mut [u32; 2560],
-) -> Answer
+) -> Result<(), Answer>
     ensures { Holds (read_over s.now (tables_of size.old nodes.old rows.old vars.old labels.old body.old)) result size.new nodes.new rows.new vars.new labels.new body.new }
 {
     if Limits::BYTES < s.len() {
         clear(size, nodes, rows, vars, labels, body);
-        return Answer { number: 1, line: 0 };
+        return Err(Answer { number: 1, line: 0 });
     }
     let a = lines(s, size, nodes, rows, vars, labels, body);
-    if a.number != 0 {
+    if a.is_err() {
         clear(size, nodes, rows, vars, labels, body);
     }
     a

@@ -1,18 +1,18 @@
 -- One turn a line, as the invariant says.
-use Rattle.std.proofs.Common.{ap, arith, refl, subst, sym, ℕ, Result, ◌≡◌, ◌+◌, ◌-◌, ◌∙◌}
+use Rattle.std.proofs.Common.{Err, ap, arith, refl, subst, sym, ℕ, Result, ◌≡◌, ◌+◌, ◌-◌, ◌∙◌}
 use Rattle.rules.specs.declared.Count.{Count}
 use Rattle.rules.specs.Text.{lined, line_at, lines_from, stopped}
 use Rattle.rules.specs.Text.Layout.{nothing}
 use Rattle.rules.specs.Answers.{answer}
 use Rattle.program.specs.Lines.{tables_of}
-use Rattle.reader.specs.Read.{handed, settled}
+use Rattle.reader.specs.Read.{Closed, handed, settled}
 use Rattle.reader.proofs.Laws.{FitsLined, line_fits}
 use Rattle.reader.proofs.Once.{fits_on, refusal, settled_fits}
-use Rattle.reader.proofs.Ways.{lines_end, lines_line, lines_over, refused}
+use Rattle.reader.proofs.Ways.{closed_refused, lines_end, lines_line, lines_over, refused}
 use Rattle.reader.proofs.lines.Goals as goal
 
 pub returns-then-s-at : goal.returns-then-s-at
-returns-then-s-at c = let a = c.args in let l = c.loop-line in c.ended.ensures (tables_of l.size l.nodes l.rows l.vars l.labels l.body) ∙ sym (lines_end l.c (tables_of l.size l.nodes l.rows l.vars l.labels l.body) a.s.now l.line l.at (611 - l.line) (omega arith) c.if-s-at.true) ∙ l.invariant.1
+returns-then-s-at c = let a = c.args in let l = c.loop-line in let t = (tables_of l.size l.nodes l.rows l.vars l.labels l.body) in subst (Closed c.ended.result _) (sym (lines_end l.c t a.s.now l.line l.at (611 - l.line) (omega arith) c.if-s-at.true) ∙ l.invariant.1) (c.ended.ensures t)
 
 pub returns-in-Err : goal.returns-in-Err
 returns-in-Err c =
@@ -23,9 +23,12 @@ returns-in-Err c =
     let t = (tables_of l.size l.nodes l.rows l.vars l.labels l.body) in
     let u = (tables_of l.size e.new.nodes e.new.rows e.new.vars e.new.labels e.new.body) in
     let same : settled (lined n 0 nothing u) ≡ settled (line_at a.s.now l.at l.c t) = ap (λ (r : Result (ℕ × Count) ℕ). settled (handed r u)) (sym c.in-Err.is) ∙ e.ensures l.size in
-    refused nothing u (lines_from a.s.now (611 - l.line - 1) (l.line + 1)) l.line 0 n (refusal a.s.now l.at l.c t u n same)
+    let ne : n ≡ 0 → ⊥ = refusal a.s.now l.at l.c t u n same in
+    subst (Closed (Err (answer n l.line)) u)
+    (refused nothing u (lines_from a.s.now (611 - l.line - 1) (l.line + 1)) l.line 0 n ne
     ∙ sym (lines_line l.c t a.s.now l.line l.at (611 - l.line) (lined n 0 nothing u) (omega arith) (omega arith) same)
-    ∙ l.invariant.1
+    ∙ l.invariant.1)
+    (closed_refused (answer n l.line) u ne)
 
 pub loop-line-preserved : goal.loop-line-preserved
 loop-line-preserved c =
@@ -43,4 +46,4 @@ loop-line-preserved c =
     )
 
 pub returns : goal.returns
-returns c = let a = c.args in let l = c.loop-line in let q : 611 ≡ l.line = omega arith in (λ i. stopped (answer 3 (q i))) ∙ sym (lines_over l.c (tables_of l.size l.nodes l.rows l.vars l.labels l.body) a.s.now l.line l.at (611 - l.line) (omega arith)) ∙ l.invariant.1
+returns c = let a = c.args in let l = c.loop-line in let q : 611 ≡ l.line = omega arith in let t = (tables_of l.size l.nodes l.rows l.vars l.labels l.body) in subst (Closed (Err (answer 3 611)) t) ((λ i. stopped (answer 3 (q i))) ∙ sym (lines_over l.c t a.s.now l.line l.at (611 - l.line) (omega arith)) ∙ l.invariant.1) (closed_refused (answer 3 611) t (λ e. omega (arith, e)))
