@@ -3,8 +3,8 @@ use Prim.Native.Nat.{zero-le}
 use native.Mathlib.Omega.{arith}
 use lib.Dec.{T}
 use borrow.Author.Tests.{leb-true, ltb-false, eqb-true, eqb-false}
-use Rattle.std.specs.Prelude.{◌+◌, ◌*◌, ◌<◌, ◌≤◌, ◌||◌, ◌≡◌, Ok, Err}
-use Rattle.rules.specs.Prelude.{ℕ, zero, suc, List, sym, subst, ltb, leb, eqb, length}
+use Rattle.std.specs.Prelude.{◌+◌, ◌*◌, ◌<◌, ◌≤◌, ◌||◌, ◌≡◌, Result, Ok, Err}
+use Rattle.rules.specs.Prelude.{ℕ, zero, suc, List, sym, ◌∙◌, subst, ltb, leb, eqb, length}
 use Rattle.rules.specs.Text.Words.{Reading}
 use Rattle.rules.specs.declared.StoreCount.{StoreCount}
 use Rattle.rules.specs.Bytes.{bytes}
@@ -12,7 +12,7 @@ use Rattle.rules.proofs.Laws.Tests.{held, and_both, by_when}
 use Rattle.rules.specs.Text.Words.{byte_at, value_of, plain_at, number_at}
 use Rattle.rules.specs.Store.Text.{datum_of, place_of, cell_word, cells_on, cells_from, spaced, block_words, store_key, store_order, store_words, counted, within, StoreLine, store_line, store_limits, store_shaped, store_keyed, store_line_at, Counted, counted_out, store_end, and_store, store_lines, no_store}
 use Rattle.text.proofs.Laws.{found, Reads, right, wrong, value_most, plain_reads, number_reads, or_reads}
-use Rattle.tally.specs.Counts.{Few, tallied}
+use Rattle.tally.specs.Counts.{Few, lined, tallied}
 
 -- ---- cells
 
@@ -113,6 +113,17 @@ module _ (s : List ℕ) (most : ℕ) (c : StoreCount) (h : c.args ≤ most) wher
   pub line_few : (params at : ℕ) → FewLined (most + 1) (store_line_at s params at c)
   unfolding store_line_at
   line_few params at = keyed_few params at (store_key s at)
+
+-- a line that is not refused
+abbrev FewOn : ℕ → Result (ℕ × StoreCount) (ℕ × StoreCount) → Type 0
+FewOn most (Ok (n, c)) = Few most c
+FewOn most (Err (a, c)) = Unit
+
+pub few_line : (s : List ℕ) (params at most : ℕ) (c : StoreCount) → Few most c → {r : Result (ℕ × StoreCount) (ℕ × StoreCount)} → r ≡ lined (store_line_at s params at c) → {n : ℕ} {d : StoreCount} → r ≡ Ok (n, d) → Few (most + 1) d
+few_line s params at most c f e q = subst (FewOn (most + 1)) (sym e ∙ q) (by (store_line_at s params at c) (line_few s most c f.few_args params at))
+  where
+    by : (x : StoreLine) → FewLined (most + 1) x → FewOn (most + 1) (lined x)
+    by (store_line a n d) h = by_when (FewOn (most + 1)) (eqb a 0) _ _ (λ e. h (eqb-true a 0 e)) (λ _. tt)
 
 end_few : (params line most : ℕ) (c : StoreCount) → Few most c → FewCounted most (store_end params line c)
 end_few params line most c f = by_when (FewCounted most) (eqb c.part 0 || ltb c.args params) _ _ (λ _ z. absurd (omega arith)) (λ _ _. f)

@@ -1,16 +1,15 @@
 -- The words and lines of a store text: one law for each way that the code goes. Assumes nothing.
-use native.Mathlib.Nat.{lt_irrefl}
-use native.Mathlib.Numerals.{sub-one}
 use native.Mathlib.Omega.{arith}
 use borrow.Author.Tests.{lt-ltb, le-ltb, eq-eqb, ne_eqb}
-use Rattle.std.specs.Prelude.{◌+◌, ◌-◌, ◌<◌, ◌≤◌, ◌≡◌, Ok, Err}
-use Rattle.rules.specs.Prelude.{ℕ, zero, suc, true, false, List, sym, ◌∙◌, length}
+use Rattle.std.specs.Prelude.{◌+◌, ◌-◌, ◌<◌, ◌≤◌, ◌≡◌, Result, Ok, Err}
+use Rattle.rules.specs.Prelude.{ℕ, suc, Bool, true, false, List, eqb, refl, sym, ap, ◌∙◌, length}
 use Rattle.rules.specs.Text.Words.{Reading}
 use Rattle.rules.specs.declared.StoreCount.{StoreCount}
-use Rattle.rules.specs.Answers.{answer, accepted}
+use Rattle.rules.specs.Answers.{answer}
 use Rattle.rules.specs.Text.Words.{byte_at, plain_at, number_at}
-use Rattle.rules.specs.Store.Text.{datum_of, place_of, cell_word, arg_word, cells_on, cells_from, spaced, store_order, store_words, counted, StoreLine, store_line, store_limits, store_shaped, store_keyed, store_line_at, counted_out, store_end, and_store, store_lines, no_store}
-use Rattle.tally.specs.Counts.{tallied}
+use Rattle.rules.specs.Store.Text.{datum_of, place_of, cell_word, arg_word, cells_on, cells_from, StoreLine, store_line, store_line_at, Counted, store_end, and_store, store_lines, no_store}
+use Rattle.tally.specs.declared.Tally.{Tally}
+use Rattle.tally.specs.Counts.{lined, passed, tallied}
 
 -- ---- data, by the first byte
 
@@ -35,99 +34,68 @@ module _ (s : List ℕ) (at : ℕ) {b : ℕ} (e : b ≡ byte_at s at) where
   unfolding arg_word
   arg_cell n = rw (← e, ne_eqb b 99)
 
--- ---- cells: a turn reads the cell r, and n were counted before it
+-- ---- cells: a turn reads the cell r, and n of at most `most` were counted before it
 
-pub no_cells : (s : List ℕ) (n at left : ℕ) → left ≤ 0 → cells_from s left n at ≡ Err at
+pub no_cells : (s : List ℕ) (n at most : ℕ) → most ≤ n → cells_from s (most - n) n at ≡ Err at
 unfolding cells_from
-no_cells s n at left h = let e : left ≡ 0 = omega arith in rw e
+no_cells s n at most h = let e : most - n ≡ 0 = omega arith in rw e
 
-turn : (s : List ℕ) (n at left : ℕ) → 0 < left → {r : Reading} → r ≡ cell_word s at → cells_from s left n at ≡ cells_on s (cells_from s (left - 1)) n r
-unfolding cells_from
-turn s n at zero p e = absurd (lt_irrefl 0 p)
-turn s n at (suc left) p e = rw (e, sub-one (suc left))
+module _ (s : List ℕ) (n at most : ℕ) (p : n < most) {r : Reading} (e : r ≡ cell_word s at) where
+  turn : cells_from s (most - n) n at ≡ cells_on s (cells_from s (most - (n + 1))) n r
+  unfolding cells_from
+  turn = let f : most - n ≡ suc (most - (n + 1)) = omega arith in rw (f, e)
 
-module _ (s : List ℕ) (n at left : ℕ) (p : 0 < left) {r : Reading} (e : r ≡ cell_word s at) where
-  pub cells_not : {q : ℕ} → r ≡ Err q → cells_from s left n at ≡ Err q
-  cells_not f = turn s n at left p (sym f ∙ e)
+  pub cells_not : {q : ℕ} → r ≡ Err q → Err q ≡ cells_from s (most - n) n at
+  cells_not f = sym (turn ∙ rw f)
 
   module _ {w m : ℕ} (f : r ≡ Ok (w, m)) {b : ℕ} (g : b ≡ byte_at s m) where
-    pub cells_end : (b ≡ 32 → ⊥) → cells_from s left n at ≡ Ok (n + 1, m)
-    cells_end k = turn s n at left p (sym f ∙ e) ∙ rw (← g, ne_eqb b 32)
+    pub cells_end : (b ≡ 32 → ⊥) → cells_from s (most - n) n at ≡ Ok (n + 1, m)
+    cells_end k = turn ∙ rw (f, ← g, ne_eqb b 32)
 
-    pub cells_go : b ≡ 32 → cells_from s left n at ≡ cells_from s (left - 1) (n + 1) (m + 1)
-    cells_go k = turn s n at left p (sym f ∙ e) ∙ rw (← g, eq-eqb b 32)
-
--- ---- what stands after a space
-
-module _ (s : List ℕ) (go : ℕ → Reading) {r : Reading} where
-  pub after_bad : {p : ℕ} → r ≡ Err p → Err p ≡ spaced s go r
-  after_bad e = rw e
-
-  module _ {w n : ℕ} (e : r ≡ Ok (w, n)) {b : ℕ} (g : b ≡ byte_at s n) where
-    pub no_space : (b ≡ 32 → ⊥) → Err n ≡ spaced s go r
-    no_space h = rw (e, ← g, ne_eqb b 32)
-
-    pub a_space : b ≡ 32 → {x : Reading} → x ≡ go (n + 1) → x ≡ spaced s go r
-    a_space h q = rw (e, ← g, eq-eqb b 32) q
-
--- ---- a line, whole
-
-module _ (s : List ℕ) (params start : ℕ) (c : StoreCount) (k at : ℕ) where
-  pub not_ordered : store_order params c k ≡ false → store_keyed s params start c (Ok (k, at)) ≡ store_line 22 start c
-  not_ordered e = rw e
-
-  module _ (o : store_order params c k ≡ true) {x : Reading} (q : x ≡ store_words s k at) where
-    ordered : store_keyed s params start c (Ok (k, at)) ≡ store_shaped s c k x
-    ordered = rw (o, q)
-
-    pub words_not : {p : ℕ} → x ≡ Err p → store_keyed s params start c (Ok (k, at)) ≡ store_line 22 p c
-    words_not e = ordered ∙ rw e
-
-    module _ {v n : ℕ} (e : x ≡ Ok (v, n)) {b : ℕ} (g : b ≡ byte_at s n) where
-      pub no_feed : (b ≡ 10 → ⊥) → store_keyed s params start c (Ok (k, at)) ≡ store_line 22 n c
-      no_feed h = ordered ∙ rw (e, ← g, ne_eqb b 10)
-
-      pub feed : b ≡ 10 → store_keyed s params start c (Ok (k, at)) ≡ store_limits (n + 1) (counted c k v)
-      feed h = ordered ∙ rw (e, ← g, eq-eqb b 10)
+    pub cells_go : b ≡ 32 → cells_from s (most - n) n at ≡ cells_from s (most - (n + 1)) (n + 1) (m + 1)
+    cells_go k = turn ∙ rw (f, ← g, eq-eqb b 32)
 
 -- ---- the text, whole
 
-module _ (params line : ℕ) (c : StoreCount) where
-  pub end_none : c.part ≡ 0 → store_end params line c ≡ counted_out (answer 22 line) c
-  end_none e = rw (eq-eqb c.part 0)
+-- a line as the code hands it on, and the lines after it
+abbrev on_line : (ℕ → StoreCount → Counted) → ℕ → Result (ℕ × StoreCount) (ℕ × StoreCount) → Result StoreCount Tally
+on_line rest line (Ok (n, c)) = passed (rest n c)
+on_line rest line (Err (a, c)) = Err (record { answer = answer a line; count = c })
 
-  module _ (n : c.part ≡ 0 → ⊥) where
-    pub end_few : c.args < params → store_end params line c ≡ counted_out (answer 22 line) c
-    end_few h = rw (ne_eqb c.part 0, lt-ltb c.args params)
-
-    pub end_all : params ≤ c.args → store_end params line c ≡ counted_out accepted c
-    end_all h = rw (ne_eqb c.part 0, le-ltb c.args params)
+line_on : (rest : ℕ → StoreCount → Counted) (line : ℕ) (x : StoreLine) → passed (and_store rest line x) ≡ on_line rest line (lined x)
+line_on rest line (store_line a n c) = by (eqb a 0) refl
+  where
+    by : (t : Bool) → eqb a 0 ≡ t → passed (and_store rest line (store_line a n c)) ≡ on_line rest line (lined (store_line a n c))
+    by true q = rw q
+    by false q = rw (q, q)
 
 module _ (s : List ℕ) (params line at : ℕ) (c : StoreCount) where
-  pub lines_over : (left : ℕ) → left ≤ 0 → store_lines s params left line at c ≡ counted_out (answer 23 line) c
+  pub lines_over : (most : ℕ) → most ≤ line → passed (store_lines s params (most - line) line at c) ≡ Err (record { answer = answer 23 line; count = c })
   unfolding store_lines
-  lines_over left h = let e : left ≡ 0 = omega arith in rw e
+  lines_over most h = let e : most - line ≡ 0 = omega arith in rw e
 
-  pub lines_end : (left : ℕ) → 0 < left → length s ≤ at → store_lines s params left line at c ≡ store_end params line c
-  unfolding store_lines
-  lines_end zero p h = absurd (omega arith)
-  lines_end (suc left) p h = rw (le-ltb at (length s))
+  module _ (most : ℕ) (p : line < most) where
+    pub lines_end : length s ≤ at → store_lines s params (most - line) line at c ≡ store_end params line c
+    unfolding store_lines
+    lines_end h = let e : most - line ≡ suc (most - (line + 1)) = omega arith in rw (e, le-ltb at (length s))
 
-  line_then : (left : ℕ) {x : StoreLine} → 0 < left → at < length s → x ≡ store_line_at s params at c
-      → store_lines s params left line at c ≡ and_store (store_lines s params (left - 1) (line + 1)) line x
-  unfolding store_lines
-  line_then zero p h e = absurd (omega arith)
-  line_then (suc left) p h e = rw (lt-ltb at (length s), e, sub-one (suc left))
+    module _ (h : at < length s) where
+      line_then : store_lines s params (most - line) line at c ≡ and_store (store_lines s params (most - (line + 1)) (line + 1)) line (store_line_at s params at c)
+      unfolding store_lines
+      line_then = let e : most - line ≡ suc (most - (line + 1)) = omega arith in rw (e, lt-ltb at (length s))
 
-  module _ (left : ℕ) (p : 0 < left) (h : at < length s) {a n : ℕ} {d : StoreCount} (e : store_line a n d ≡ store_line_at s params at c) where
-    pub line_goes : a ≡ 0 → store_lines s params left line at c ≡ store_lines s params (left - 1) (line + 1) n d
-    line_goes z = line_then left p h e ∙ rw (eq-eqb a 0)
+      module _ {r : Result (ℕ × StoreCount) (ℕ × StoreCount)} (e : r ≡ lined (store_line_at s params at c)) where
+        then_on : passed (store_lines s params (most - line) line at c) ≡ on_line (store_lines s params (most - (line + 1)) (line + 1)) line r
+        then_on = ap passed line_then ∙ line_on (store_lines s params (most - (line + 1)) (line + 1)) line (store_line_at s params at c) ∙ rw (sym e)
 
-    pub line_stops : (a ≡ 0 → ⊥) → store_lines s params left line at c ≡ counted_out (answer a line) d
-    line_stops z = line_then left p h e ∙ rw (ne_eqb a 0)
+        pub line_goes : {n : ℕ} {d : StoreCount} → r ≡ Ok (n, d) → passed (store_lines s params (most - line) line at c) ≡ passed (store_lines s params (most - (line + 1)) (line + 1) n d)
+        line_goes q = then_on ∙ rw q
+
+        pub line_stops : {a : ℕ} {d : StoreCount} → r ≡ Err (a, d) → Err (record { answer = answer a line; count = d }) ≡ passed (store_lines s params (most - line) line at c)
+        line_stops q = sym (then_on ∙ rw q)
 
 module _ (params : ℕ) (s : List ℕ) where
-  pub too_long : 16384 < length s → tallied params s ≡ counted_out (answer 21 0) no_store
+  pub too_long : 16384 < length s → passed (tallied params s) ≡ Err (record { answer = answer 21 0; count = no_store })
   unfolding tallied
   too_long h = rw (lt-ltb 16384 (length s))
 
