@@ -4,7 +4,7 @@
 #![tactic(auto)]
 
 ghost use Rattle.std.specs.Prelude.{◌≡◌, List, map, ℕ, ◌<◌, length};
-ghost use Rattle.rules.specs.Answers.{first};
+ghost use Rattle.rules.specs.Answers.{first, outcome};
 ghost use Rattle.rules.specs.Program.{loosest, kind_at};
 ghost use Rattle.rules.specs.View.{rows_from, vars_from, program};
 ghost use Rattle.rules.specs.Machine.{block_at, ev_var};
@@ -12,7 +12,7 @@ ghost use Rattle.rules.specs.Machine.Tables.{store_of, vals_of};
 ghost use Rattle.rules.specs.Fits.{fits_imm, fits_place, fits, right_shape, block_number, arg_numbers};
 ghost use Rattle.rules.specs.Store.{store_fits};
 ghost use Rattle.program.specs.Lines.{tables_of};
-ghost use Rattle.fits.specs.Blocks.{block_fits};
+ghost use Rattle.fits.specs.Blocks.{block_fits, numbered};
 
 use rules::{Answer, Datum, Given, Kind, Num};
 
@@ -33,15 +33,7 @@ fn fits_place(store: &[u32; 2], heads: &[u32; 768], r: usize, b: usize, o: usize
     ensures { (C : List ℕ) → result ≡ fits_place (store_of store.now heads.now C) r loosest b o }
 {
     let row = storage::block_row(store, heads, b);
-    if row == r {
-        if o == 0 {
-            storage::is_inside(store, heads, b, o)
-        } else {
-            false
-        }
-    } else {
-        false
-    }
+    row == r && o == 0 && storage::is_inside(store, heads, b, o)
 }
 
 #[tactic(auto, unfolding(rules::specs::Fits::fits))]
@@ -55,20 +47,11 @@ fn given_fits(
 ) -> bool
     ensures { (C : List ℕ) → result ≡ fits (rows_from size.now rows.now) (store_of store.now heads.now C) k loosest g }
 {
-    match g {
-        None => false,
-        Some(d) => match k {
-            Kind::Cint => match d {
-                Datum::Int(_) => true,
-                Datum::Imm(_) => false,
-                Datum::Place(_, _) => false,
-            },
-            Kind::Value(r) => match d {
-                Datum::Int(_) => false,
-                Datum::Imm(n) => fits_imm(size, rows, r, n),
-                Datum::Place(b, o) => fits_place(store, heads, r, b, o),
-            },
-        },
+    match (k, g) {
+        (Kind::Cint, Some(Datum::Int(_))) => true,
+        (Kind::Value(r), Some(Datum::Imm(n))) => fits_imm(size, rows, r, n),
+        (Kind::Value(r), Some(Datum::Place(b, o))) => fits_place(store, heads, r, b, o),
+        _ => false,
     }
 }
 
@@ -87,14 +70,8 @@ fn right_shape(
 {
     let r = storage::block_row(store, heads, k);
     let t = storage::block_tag(store, heads, k) as usize;
-    let products = program::prods_of(size, rows, r);
-    if t < products {
-        let cells = storage::cell_count(store, heads, k);
-        let fields = program::fields_of(size, rows, r, t);
-        cells == fields
-    } else {
-        false
-    }
+    t < program::prods_of(size, rows, r)
+        && storage::cell_count(store, heads, k) == program::fields_of(size, rows, r, t)
 }
 
 // Every cell of block k fits the row of its field.
@@ -111,40 +88,35 @@ fn cells_fit(
 {
     let r = storage::block_row(store, heads, k);
     let t = storage::block_tag(store, heads, k) as usize;
-    let n = storage::cell_count(store, heads, k);
-    let mut o = 0;
-    while o < n {
+    for o in 0..storage::cell_count(store, heads, k) {
         let q = program::field_of(size, rows, r, t, o);
         let g = storage::cell_at(store, heads, cells, k, o);
-        if given_fits(size, rows, store, heads, Kind::Value(q), g) {
-            o += 1;
-        } else {
+        if !given_fits(size, rows, store, heads, Kind::Value(q), g) {
             return false;
         }
     }
     true
 }
 
+// Block k fits its row, or the number of its answer.
 #[tactic(auto, using(crate::proofs::Laws::block_cells, crate::proofs::Laws::block_right, crate::proofs::Laws::block_shape))]
-fn block_number(
+fn fit_block(
     size: &[u32; 6],
     rows: &[u32; 17536],
     store: &[u32; 2],
     heads: &[u32; 768],
     cells: &[u64; 4352],
     k: usize,
-) -> u32
-    ensures { result ≡ block_number (rows_from size.now rows.now) (store_of store.now heads.now cells.now) (block_at (store_of store.now heads.now cells.now) k) }
+) -> Result<(), u32>
+    ensures { result ≡ numbered (block_number (rows_from size.now rows.now) (store_of store.now heads.now cells.now) (block_at (store_of store.now heads.now cells.now) k)) }
 {
-    if right_shape(size, rows, store, heads, k) {
-        if cells_fit(size, rows, store, heads, cells, k) {
-            0
-        } else {
-            26
-        }
-    } else {
-        25
+    if !right_shape(size, rows, store, heads, k) {
+        return Err(25);
     }
+    if !cells_fit(size, rows, store, heads, cells, k) {
+        return Err(26);
+    }
+    Ok(())
 }
 
 // The block lines follow line 1.
@@ -155,22 +127,16 @@ fn fit_blocks(
     store: &[u32; 2],
     heads: &[u32; 768],
     cells: &[u64; 4352],
-) -> Answer
-    ensures { result ≡ first 2 (map (block_number (rows_from size.now rows.now) (store_of store.now heads.now cells.now)) (store_of store.now heads.now cells.now)) }
+) -> Result<(), Answer>
+    ensures { result ≡ outcome (first 2 (map (block_number (rows_from size.now rows.now) (store_of store.now heads.now cells.now)) (store_of store.now heads.now cells.now))) }
 {
-    let n = storage::block_count(store);
-    let mut i = 0;
-    while i < n {
-        let a = block_number(size, rows, store, heads, cells, i);
-        if a != 0 {
-            return Answer {
-                number: a,
-                line: 2 + i,
-            };
-        }
-        i += 1;
+    for i in 0..storage::block_count(store) {
+        fit_block(size, rows, store, heads, cells, i).map_err(|number| Answer {
+            number,
+            line: 2 + i,
+        })?;
     }
-    Answer { number: 0, line: 0 }
+    Ok(())
 }
 
 // ---- arguments
@@ -203,29 +169,24 @@ fn fit_args(
     heads: &[u32; 768],
     vals: &[u64; 32],
     line: usize,
-) -> Answer
+) -> Result<(), Answer>
     requires { line < 1000 }
-    ensures { (C : List ℕ) → result ≡ first line (arg_numbers (rows_from size.now rows.now) (store_of store.now heads.now C) (vars_from size.now vars.now) (vals_of (length (vars_from size.now vars.now)) vals.now)) }
+    ensures { (C : List ℕ) → result ≡ outcome (first line (arg_numbers (rows_from size.now rows.now) (store_of store.now heads.now C) (vars_from size.now vars.now) (vals_of (length (vars_from size.now vars.now)) vals.now))) }
 {
-    let n = program::var_count(size);
-    let mut v = 0;
     let mut at = line;
-    while v < n {
+    for v in 0..program::var_count(size) {
         if program::is_local(size, vars, v) {
-            v += 1;
             continue;
         }
-        if arg_fits(size, rows, vars, store, heads, vals, v) {
-            v += 1;
-            at += 1;
-        } else {
-            return Answer {
+        if !arg_fits(size, rows, vars, store, heads, vals, v) {
+            return Err(Answer {
                 number: 27,
                 line: at,
-            };
+            });
         }
+        at += 1;
     }
-    Answer { number: 0, line: 0 }
+    Ok(())
 }
 
 // The first block line or argument line that is refused, `run=` being line 1.
@@ -238,14 +199,10 @@ pub fn fitted(
     heads: &[u32; 768],
     cells: &[u64; 4352],
     vals: &[u64; 32],
-) -> Answer
-    ensures { (N L B : List ℕ) → result ≡ store_fits (program (tables_of size.entry.now N rows.now vars.now L B)) (record { size = store.now; heads = heads.now; cells = cells.now; vals = vals.now }) }
+) -> Result<(), Answer>
+    ensures { (N L B : List ℕ) → result ≡ outcome (store_fits (program (tables_of size.entry.now N rows.now vars.now L B)) (record { size = store.now; heads = heads.now; cells = cells.now; vals = vals.now })) }
 {
-    let of_blocks = fit_blocks(size, rows, store, heads, cells);
-    let in_blocks = of_blocks.number;
-    if in_blocks != 0 {
-        return of_blocks;
-    }
+    fit_blocks(size, rows, store, heads, cells)?;
     let line = 2 + storage::block_count(store);
     fit_args(size, rows, vars, store, heads, vals, line)
 }

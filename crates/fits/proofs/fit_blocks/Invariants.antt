@@ -1,4 +1,4 @@
-use Rattle.std.proofs.Common.{drop, map, ◌+◌, ◌-◌, ◌≡◌, ◌≤◌}
+use Rattle.std.proofs.Common.{drop, map, ◌+◌, ◌≡◌}
 use Rattle.rules.specs.Fits.{block_number}
 use Rattle.rules.specs.Answers.{first}
 use Rattle.rules.specs.View.{rows_from}
@@ -6,7 +6,4 @@ use Rattle.rules.specs.Machine.Tables.{store_of}
 use Rattle.fits.proofs.fit_blocks.Given as goal
 
 abbrev pub invariant-loop-i : goal.invariant-loop-i
-invariant-loop-i l = (l.i ≤ l.n) × (first (2 + l.i) (map (block_number (rows_from l.size l.rows) (store_of l.store l.heads l.cells)) (drop l.i (store_of l.store l.heads l.cells))) ≡ first 2 (map (block_number (rows_from l.size l.rows) (store_of l.store l.heads l.cells)) (store_of l.store l.heads l.cells)))
-
-abbrev pub decreases-loop-i : goal.decreases-loop-i
-decreases-loop-i l = l.n - l.i
+invariant-loop-i l = first (2 + l.i-counter) (map (block_number (rows_from l.size l.rows) (store_of l.store l.heads l.cells)) (drop l.i-counter (store_of l.store l.heads l.cells))) ≡ first 2 (map (block_number (rows_from l.size l.rows) (store_of l.store l.heads l.cells)) (store_of l.store l.heads l.cells))
