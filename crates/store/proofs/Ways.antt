@@ -1,63 +1,88 @@
 -- A store text of a right shape, read for its names and into the tables: one law for each way that the code goes, and where in the text it is. Assumes nothing.
-use native.Mathlib.Numerals.{add-one, sub-one}
 use native.Mathlib.Omega.{arith}
 use lib.ListN.{drop_of_length-le, length-drop}
-use lib.Seq.{drop-cons}
-use borrow.Author.Tests.{ltb-false, eq-eqb, ne_eqb}
-use Rattle.std.specs.Prelude.{◌+◌, ◌-◌, ◌*◌, ◌<◌, ◌≤◌, ◌∷◌, ◌≡◌}
-use Rattle.rules.specs.Prelude.{ℕ, zero, suc, max, Bool, true, false, List, [], refl, sym, ap, subst, ◌∙◌, ltb, eqb, length, get_or, set, drop, replicate}
+use borrow.Author.Tests.{ltb-false, eqb-true}
+use Rattle.std.specs.Prelude.{◌+◌, ◌-◌, ◌*◌, ◌<◌, ◌≤◌, ◌∷◌, ◌≡◌, ◌==◌, cond, nat_lt, not, position, Option, None, Some, Result, Ok, Err}
+use Rattle.std.specs.List.{position_or_len}
+use Rattle.std.proofs.lemmas.List.{take_all}
+use Rattle.std.proofs.lemmas.List.Sums.{prefix_len-le-length}
+use Rattle.std.proofs.lemmas.Bool.Decides.{nat_tests}
+use Rattle.std.proofs.lemmas.Option.{cond_some}
+use Rattle.rules.specs.Prelude.{ℕ, suc, max, Bool, true, false, List, [], refl, sym, ap, subst, ◌∙◌, ltb, eqb, length, get_or, set, take, drop, replicate}
 use Rattle.rules.specs.declared.Answer.{Answer}
 use Rattle.rules.specs.declared.Kind.{Kind}
 use Rattle.rules.specs.declared.Num.{Num}
 use Rattle.rules.specs.Text.Words.{Reading}
 use Rattle.rules.specs.declared.StoreCount.{StoreCount}
 use Rattle.rules.proofs.Laws.Tests.{by_when}
-use Rattle.rules.specs.Answers.{answer, accepted, first}
+use Rattle.rules.specs.When.{One, when}
+use Rattle.rules.specs.Answers.{answer, accepted, and_then, passes, outcome, first}
 use Rattle.rules.specs.Text.Words.{value_of, next_of, plain_at, number_at}
 use Rattle.rules.specs.Environments.{no_var}
 use Rattle.rules.specs.Program.{Rows, Var, Prog}
 use Rattle.rules.specs.Machine.Tables.{code_of, block_width}
-use Rattle.rules.specs.Store.Text.{counted_out, cell_word, arg_word, block_words}
+use Rattle.rules.specs.Store.Text.{Counted, counted_out, cell_word, arg_word, block_words}
 use Rattle.rules.specs.Store.Fill.{line_after, next_line, row_of, tag_word, cells_start, cell_count, datum_there, cells_there, block_there, arg_names, block_names, store_names, StoreTables, no_store_tables, kept_cells, put_head, fill_cells, local_datum, fill_vals, fill_blocks, fill_store}
-use Rattle.rules.specs.Store.{StoreOut, judged, params_of, read_store, store_fits}
+use Rattle.rules.specs.Store.{StoreOut, kept_store, judged, params_of, read_store, store_fits}
 use Rattle.text.proofs.Laws.{value_most, next_most, plain_reads, number_reads}
 use Rattle.table.proofs.Passes.{left_more, left_none}
 use Rattle.storage.specs.Heads.{head_put}
 use Rattle.storage.proofs.Laws.{head_put_lem, nothing_is}
-use Rattle.tally.specs.Counts.{Few, tallied}
+use Rattle.tally.specs.declared.Tally.{Tally}
+use Rattle.tally.specs.Counts.{Few, passed, tallied}
 use Rattle.tally.proofs.Laws.{cell_reads, block_most, FewCounted, tally_few, Short, tally_short}
 use Rattle.store.specs.declared.BlockLine.{BlockLine}
 use Rattle.store.specs.declared.Taken.{Taken}
-use Rattle.store.specs.Lines.{Near, block_line, takes_one, taken}
-use Rattle.store.specs.Says.{tables_are, Says}
+use Rattle.store.specs.Lines.{Inside, Near, block_line, taken}
+use Rattle.store.specs.Says.{tables_are, Filled}
 
 -- ---- the next line
 
-module _ (s : List ℕ) (i : ℕ) where
-  pub line_none : length s ≤ i → line_after (drop i s) i ≡ i
+abbrev is_feed : ℕ → Bool
+is_feed b = b == 10
+
+-- the place of the first one, or the length
+line_at : (l : List ℕ) (i : ℕ) → line_after l i ≡ i + cond (nat_lt (position_or_len is_feed l) (length l)) (position_or_len is_feed l + 1) (position_or_len is_feed l)
+unfolding line_after
+line_at [] i = omega arith
+line_at (b ∷ l) i = by (line_at l (i + 1)) (is_feed b) refl
+  where
+    by : line_after l (i + 1) ≡ i + 1 + cond (nat_lt (position_or_len is_feed l) (length l)) (position_or_len is_feed l + 1) (position_or_len is_feed l) → (t : Bool) → is_feed b ≡ t → line_after (b ∷ l) i ≡ i + cond (nat_lt (position_or_len is_feed (b ∷ l)) (suc (length l))) (position_or_len is_feed (b ∷ l) + 1) (position_or_len is_feed (b ∷ l))
+    by h true e = rw e (grind (arith, nat_tests))
+    by h false e = rw e (grind (arith, nat_tests))
+
+module _ (s : List ℕ) (at : ℕ) where
+  pub line_past : length s ≤ at → at ≡ line_after (drop at s) at
   unfolding line_after
-  line_none h = rw (drop_of_length-le s {i = i} h)
+  line_past h = rw (drop_of_length-le s {i = at} h)
 
-  module _ (h : i < length s) where
-    pub line_found : get_or s i 0 ≡ 10 → line_after (drop i s) i ≡ i + 1
-    unfolding line_after
-    line_found e = rw (drop-cons s i 0 h, eq-eqb (get_or s i 0) 10)
+  -- the rest of the text, as the code takes it
+  module _ {o : Option ℕ} (f : o ≡ position is_feed (take (length s - at) (drop at s))) where
+    e : o ≡ position is_feed (drop at s)
+    e = f ∙ ap (position is_feed) (take_all (length s - at) (drop at s) (omega (arith, length-drop at s)))
 
-    pub line_on : (get_or s i 0 ≡ 10 → ⊥) → line_after (drop i s) i ≡ line_after (drop (i + 1) s) (i + 1)
-    unfolding line_after
-    line_on e = rw (drop-cons s i 0 h, ne_eqb (get_or s i 0) 10, add-one i)
+    pub line_found : {k : ℕ} → o ≡ Some k → at + k + 1 ≡ line_after (drop at s) at
+    line_found {k} q = let c = cond_some _ _ _ (sym e ∙ q) in rw (line_at (drop at s) at, c.0) (omega (arith, c.1))
+
+    pub line_none : at < length s → o ≡ None → length s ≡ line_after (drop at s) at
+    line_none h q = rw (line_at (drop at s) at) (by (nat_lt (position_or_len is_feed (drop at s)) (length (drop at s))) refl)
+      where
+        by : (t : Bool) → nat_lt (position_or_len is_feed (drop at s)) (length (drop at s)) ≡ t
+            → length s ≡ at + cond (nat_lt (position_or_len is_feed (drop at s)) (length (drop at s))) (position_or_len is_feed (drop at s) + 1) (position_or_len is_feed (drop at s))
+        by true y = let z = rw y at (sym e ∙ q) in absurd (cc z)
+        by false y = rw y (omega (arith, ltb-false _ _ y, prefix_len-le-length (λ (b : ℕ). not (is_feed b)) (drop at s), length-drop at s))
 
 after_most : (l : List ℕ) (i : ℕ) → line_after l i ≤ i + length l
 unfolding line_after
 after_most [] i = omega arith
 after_most (b ∷ l) i = by_when (λ (n : ℕ). n ≤ i + suc (length l)) (eqb b 10) _ _ (λ _. omega arith) (λ _. omega (arith, after_most l (i + 1)))
 
-pub next_near : {s : List ℕ} {at n : ℕ} → Near (length s) s at → n ≡ next_line s at → Near (length s) s n
+pub next_near : {s : List ℕ} {at n : ℕ} → Inside s at → n ≡ next_line s at → Inside s n
 unfolding next_line
 next_near {s} {at} h e = record { near = omega (arith, e, after_most (drop at s) at, length-drop at s, h.near); short = h.short }
 
 -- the first line stands inside every text
-pub start_near : (s : List ℕ) → length s ≤ 16384 → Near (length s) s 0
+pub start_near : (s : List ℕ) → length s ≤ 16384 → Inside s 0
 start_near s h = record { near = omega arith; short = h }
 
 -- ---- words: how large, and where the next begins
@@ -95,27 +120,20 @@ line_is s at er en eg ew ex ey ez em = rw (ex, ey, ez, em, eg, en, ew, er)
 
 -- ---- 24
 
-module _ (s : List ℕ) (blocks at : ℕ) where
-  pub cells_done : (left : ℕ) → left ≤ 0 → cells_there s blocks left at ≡ true
+-- each turn: k of n were looked at before it
+module _ (s : List ℕ) (blocks at k n : ℕ) where
+  pub cells_done : n ≤ k → cells_there s blocks (n - k) at ≡ true
   unfolding cells_there
-  cells_done left h = let e : left ≡ 0 = omega arith in rw e
+  cells_done h = let e : n - k ≡ 0 = omega arith in rw e
 
-  module _ (left : ℕ) (p : 0 < left) {r : Reading} (q : r ≡ cell_word s at) {w : ℕ} (x : w ≡ value_of r) {t : Bool} (d : t ≡ datum_there blocks w) where
-    pub cells_not : t ≡ false → cells_there s blocks left at ≡ false
+  module _ (p : k < n) {r : Reading} (q : r ≡ cell_word s at) {w : ℕ} (x : w ≡ value_of r) {t : Bool} (d : t ≡ datum_there blocks w) where
+    pub cells_not : t ≡ false → cells_there s blocks (n - k) at ≡ false
     unfolding cells_there
-    cells_not e = by left p
-      where
-        by : (n : ℕ) → 0 < n → cells_there s blocks n at ≡ false
-        by zero h = absurd (omega arith)
-        by (suc n) h = rw (← q, ← x, ← d, e)
+    cells_not e = let g : n - k ≡ suc (n - (k + 1)) = omega arith in rw (g, ← q, ← x, ← d, e)
 
-    pub cells_go : t ≡ true → {m : ℕ} → m ≡ next_of r → cells_there s blocks left at ≡ cells_there s blocks (left - 1) (m + 1)
+    pub cells_go : t ≡ true → {m : ℕ} → m ≡ next_of r → cells_there s blocks (n - k) at ≡ cells_there s blocks (n - (k + 1)) (m + 1)
     unfolding cells_there
-    cells_go e {m} f = by left p
-      where
-        by : (n : ℕ) → 0 < n → cells_there s blocks n at ≡ cells_there s blocks (n - 1) (m + 1)
-        by zero h = absurd (omega arith)
-        by (suc n) h = rw (← q, ← x, ← d, e, f, sub-one (suc n))
+    cells_go e f = let g : n - k ≡ suc (n - (k + 1)) = omega arith in rw (g, ← q, ← x, ← d, e, f)
 
 module _ (s : List ℕ) (ρ : Rows) (blocks at : ℕ) {b : BlockLine} (e : b ≡ block_line s at) {t : Bool} (q : t ≡ ltb b.row (length ρ)) where
   pub block_no : t ≡ false → false ≡ block_there s ρ blocks at
@@ -126,49 +144,34 @@ module _ (s : List ℕ) (ρ : Rows) (blocks at : ℕ) {b : BlockLine} (e : b ≡
   unfolding block_there
   block_yes f g = rw (← ap (λ (x : BlockLine). x.row) e, ← q, f) (g ∙ ap (λ (x : BlockLine). cells_there s blocks x.count x.start) e)
 
-module _ (s : List ℕ) (blocks at line : ℕ) where
-  pub args_done : (left : ℕ) → left ≤ 0 → first line (arg_names s blocks left at) ≡ accepted
+-- each turn: a line, and the one after the last
+module _ (s : List ℕ) (blocks at line end : ℕ) where
+  pub args_done : end ≤ line → first line (arg_names s blocks (end - line) at) ≡ accepted
   unfolding arg_names first
-  args_done left h = let e : left ≡ 0 = omega arith in rw e
+  args_done h = let e : end - line ≡ 0 = omega arith in rw e
 
-  module _ (left : ℕ) (p : 0 < left) {r : Reading} (q : r ≡ arg_word s (at + 4)) {w : ℕ} (x : w ≡ value_of r) {t : Bool} (d : t ≡ datum_there blocks w) where
-    pub args_not : t ≡ false → first line (arg_names s blocks left at) ≡ answer 24 line
+  module _ (p : line < end) {r : Reading} (q : r ≡ arg_word s (at + 4)) {w : ℕ} (x : w ≡ value_of r) {t : Bool} (d : t ≡ datum_there blocks w) where
+    pub args_not : t ≡ false → first line (arg_names s blocks (end - line) at) ≡ answer 24 line
     unfolding arg_names first
-    args_not e = by left p
-      where
-        by : (n : ℕ) → 0 < n → first line (arg_names s blocks n at) ≡ answer 24 line
-        by zero h = absurd (omega arith)
-        by (suc n) h = rw (← q, ← x, ← d, e)
+    args_not e = let g : end - line ≡ suc (end - (line + 1)) = omega arith in rw (g, ← q, ← x, ← d, e)
 
-    pub args_go : t ≡ true → {n : ℕ} → n ≡ next_line s at → first line (arg_names s blocks left at) ≡ first (line + 1) (arg_names s blocks (left - 1) n)
+    pub args_go : t ≡ true → {n : ℕ} → n ≡ next_line s at → first line (arg_names s blocks (end - line) at) ≡ first (line + 1) (arg_names s blocks (end - (line + 1)) n)
     unfolding arg_names first
-    args_go e {n} f = by left p
-      where
-        by : (m : ℕ) → 0 < m → first line (arg_names s blocks m at) ≡ first (line + 1) (arg_names s blocks (m - 1) n)
-        by zero h = absurd (omega arith)
-        by (suc m) h = rw (← q, ← x, ← d, e, ← f, sub-one (suc m))
+    args_go e f = let g : end - line ≡ suc (end - (line + 1)) = omega arith in rw (g, ← q, ← x, ← d, e, ← f)
 
-module _ (s : List ℕ) (ρ : Rows) (blocks args at line : ℕ) where
-  pub blocks_done : (left : ℕ) → left ≤ 0 → block_names s ρ blocks args left at ≡ arg_names s blocks args at
+module _ (s : List ℕ) (ρ : Rows) (blocks args at line end : ℕ) where
+  pub blocks_done : end ≤ line → block_names s ρ blocks args (end - line) at ≡ arg_names s blocks args at
   unfolding block_names
-  blocks_done left h = let e : left ≡ 0 = omega arith in rw e
+  blocks_done h = let e : end - line ≡ 0 = omega arith in rw e
 
-  module _ (left : ℕ) (p : 0 < left) {t : Bool} (d : t ≡ block_there s ρ blocks (at + 6)) where
-    pub blocks_not : t ≡ false → first line (block_names s ρ blocks args left at) ≡ answer 24 line
+  module _ (p : line < end) {t : Bool} (d : t ≡ block_there s ρ blocks (at + 6)) where
+    pub blocks_not : t ≡ false → first line (block_names s ρ blocks args (end - line) at) ≡ answer 24 line
     unfolding block_names first
-    blocks_not e = by left p
-      where
-        by : (n : ℕ) → 0 < n → first line (block_names s ρ blocks args n at) ≡ answer 24 line
-        by zero h = absurd (omega arith)
-        by (suc n) h = rw (← d, e)
+    blocks_not e = let g : end - line ≡ suc (end - (line + 1)) = omega arith in rw (g, ← d, e)
 
-    pub blocks_go : t ≡ true → {n : ℕ} → n ≡ next_line s at → first line (block_names s ρ blocks args left at) ≡ first (line + 1) (block_names s ρ blocks args (left - 1) n)
+    pub blocks_go : t ≡ true → {n : ℕ} → n ≡ next_line s at → first line (block_names s ρ blocks args (end - line) at) ≡ first (line + 1) (block_names s ρ blocks args (end - (line + 1)) n)
     unfolding block_names first
-    blocks_go e {n} f = by left p
-      where
-        by : (m : ℕ) → 0 < m → first line (block_names s ρ blocks args m at) ≡ first (line + 1) (block_names s ρ blocks args (m - 1) n)
-        by zero h = absurd (omega arith)
-        by (suc m) h = rw (← d, e, ← f, sub-one (suc m))
+    blocks_go e f = let g : end - line ≡ suc (end - (line + 1)) = omega arith in rw (g, ← d, e, ← f)
 
 -- ---- filling
 
@@ -176,16 +179,15 @@ pub kept_most : (n : ℕ) → kept_cells n ≤ 17
 unfolding kept_cells
 kept_most n = by_when (λ (m : ℕ). m ≤ 17) (ltb block_width n) _ _ (λ _. omega arith) (λ e. omega (arith, ltb-false 17 n e))
 
-module _ (s : List ℕ) (k o at : ℕ) (C : List ℕ) where
-  pub no_fill : (left : ℕ) → left ≤ 0 → fill_cells s k left o at C ≡ C
+module _ (s : List ℕ) (k o n at : ℕ) (C : List ℕ) where
+  pub no_fill : n ≤ o → fill_cells s k (n - o) o at C ≡ C
   unfolding fill_cells
-  no_fill left h = let e : left ≡ 0 = omega arith in rw e
+  no_fill h = let e : n - o ≡ 0 = omega arith in rw e
 
-  pub one_fill : (left : ℕ) → 0 < left → {r : Reading} → r ≡ cell_word s at → {w m : ℕ} → w ≡ value_of r → m ≡ next_of r → {E : List ℕ} → E ≡ set C (k * block_width + o) w
-      → fill_cells s k left o at C ≡ fill_cells s k (left - 1) (o + 1) (m + 1) E
+  pub one_fill : o < n → {r : Reading} → r ≡ cell_word s at → {w m : ℕ} → w ≡ value_of r → m ≡ next_of r → {E : List ℕ} → E ≡ set C (k * block_width + o) w
+      → fill_cells s k (n - o) o at C ≡ fill_cells s k (n - (o + 1)) (o + 1) (m + 1) E
   unfolding fill_cells
-  one_fill zero p q x y z = absurd (omega arith)
-  one_fill (suc left) p q x y z = rw (z, x, y, q, sub-one (suc left))
+  one_fill p q x y z = let g : n - o ≡ suc (n - (o + 1)) = omega arith in rw (g, z, x, y, q)
 
 -- a block line's head and cells, by the numbers that were read
 module _ (s : List ℕ) (k at : ℕ) {b : BlockLine} (e : b ≡ block_line s at) {n : ℕ} (f : n ≡ kept_cells b.count) where
@@ -195,20 +197,19 @@ module _ (s : List ℕ) (k at : ℕ) {b : BlockLine} (e : b ≡ block_line s at)
   pub cells_are : (C : List ℕ) → fill_cells s k n 0 b.start C ≡ fill_cells s k (kept_cells (cell_count s at)) 0 (cells_start s at) C
   cells_are C = rw (f, e)
 
-module _ (s : List ℕ) (D : List Var) (c : StoreCount) (k at : ℕ) (H C : List ℕ) where
-  pub blocks_over : (left blocks : ℕ) → left ≤ 0 → k + left ≡ blocks → fill_blocks s D c 0 blocks at H C ≡ fill_blocks s D c left k at H C
-  blocks_over left blocks h q =
-      let e : left ≡ 0 = omega arith in
-      let f : blocks ≡ k = omega arith in
-      rw (e, f)
+module _ (s : List ℕ) (D : List Var) (c : StoreCount) (k n at : ℕ) (H C : List ℕ) where
+  pub blocks_over : n ≤ k → k ≤ n → fill_blocks s D c 0 n at H C ≡ fill_blocks s D c (n - k) k at H C
+  blocks_over h g =
+      let e : n - k ≡ 0 = omega arith in
+      let f : n ≡ k = omega arith in
+      rw e (rw f)
 
-  pub one_block : (left : ℕ) → 0 < left → {G E : List ℕ} {n : ℕ}
+  pub one_block : k < n → {G E : List ℕ} {m : ℕ}
       → G ≡ put_head H k (row_of s (at + 6)) (value_of (tag_word s (at + 6))) (kept_cells (cell_count s (at + 6)))
-      → E ≡ fill_cells s k (kept_cells (cell_count s (at + 6))) 0 (cells_start s (at + 6)) C → n ≡ next_line s at
-      → fill_blocks s D c left k at H C ≡ fill_blocks s D c (left - 1) (k + 1) n G E
+      → E ≡ fill_cells s k (kept_cells (cell_count s (at + 6))) 0 (cells_start s (at + 6)) C → m ≡ next_line s at
+      → fill_blocks s D c (n - k) k at H C ≡ fill_blocks s D c (n - (k + 1)) (k + 1) m G E
   unfolding fill_blocks
-  one_block zero p g e n = absurd (omega arith)
-  one_block (suc left) p g e n = rw (g, e, n, sub-one (suc left))
+  one_block p g e f = let x : n - k ≡ suc (n - (k + 1)) = omega arith in rw (x, g, e, f)
 
 -- n variables, of which those from v on are left
 module _ (l : List Var) (v n : ℕ) (en : n ≡ length l) where
@@ -229,16 +230,14 @@ module _ (l : List Var) (v n : ℕ) (en : n ≡ length l) where
   unfolding params_of
   params_done h = rw (left_none l v n en h)
 
-  pub params_one : v < n → {x : ℕ} → x ≡ takes_one (get_or l v no_var) → params_of (drop v l) ≡ x + params_of (drop (v + 1) l)
-  unfolding params_of
-  params_one h e = rw (left_more l v n en no_var h, e) (by (get_or l v no_var) (get_or l v no_var).is_local refl)
-    where
-      by : (d : Var) (t : Bool) → d.is_local ≡ t → params_of (d ∷ drop (v + 1) l) ≡ takes_one d + params_of (drop (v + 1) l)
-      by d true q = rw q (omega arith)
-      by d false q = rw q (omega arith)
+  module _ (h : v < n) {t : Bool} (e : t ≡ (get_or l v no_var).is_local) where
+    pub params_local : t ≡ true → params_of (drop v l) ≡ params_of (drop (v + 1) l)
+    unfolding params_of
+    params_local q = rw (left_more l v n en no_var h, ← e, q)
 
-pub takes_most : (d : Var) → takes_one d ≤ 1
-takes_most d = by_when (λ (n : ℕ). n ≤ 1) d.is_local _ _ (λ _. omega arith) (λ _. omega arith)
+    pub params_one : t ≡ false → params_of (drop v l) ≡ suc (params_of (drop (v + 1) l))
+    unfolding params_of
+    params_one q = rw (left_more l v n en no_var h, ← e, q)
 
 module _ (s : List ℕ) (d : Var) (at : ℕ) {t : Bool} (e : t ≡ d.is_local) where
   pub val_local : t ≡ true → {k : Kind} {n : Num} {x : ℕ} → k ≡ d.kind → n ≡ d.number → x ≡ code_of (local_datum k n) → ◌≡◌ {A = Taken} (record { code = x; next = at }) (taken s d at)
@@ -247,10 +246,10 @@ module _ (s : List ℕ) (d : Var) (at : ℕ) {t : Bool} (e : t ≡ d.is_local) w
   pub val_param : t ≡ false → {r : Reading} {x m : ℕ} → r ≡ arg_word s (at + 4) → x ≡ value_of r → m ≡ next_line s at → ◌≡◌ {A = Taken} (record { code = x; next = m }) (taken s d at)
   val_param h er ex em = rw (← e, h, ex, er, em)
 
-pub next_taken : {s : List ℕ} (d : Var) {at : ℕ} {t : Taken} → Near (length s) s at → t ≡ taken s d at → Near (length s) s t.next
+pub next_taken : {s : List ℕ} (d : Var) {at : ℕ} {t : Taken} → Inside s at → t ≡ taken s d at → Inside s t.next
 next_taken {s} d {at} h e = rw e (by d.is_local refl)
   where
-    by : (b : Bool) → d.is_local ≡ b → Near (length s) s (taken s d at).next
+    by : (b : Bool) → d.is_local ≡ b → Inside s (taken s d at).next
     by true q = rw q h
     by false q = rw q (next_near h refl)
 
@@ -267,9 +266,6 @@ module _ (s : List ℕ) (D : List Var) (c : StoreCount) (after : ℕ) {Z H G C E
 
 -- ---- the text, whole
 
-abbrev refused : Answer → StoreOut
-refused a = record { answer = a; tables = no_store_tables }
-
 -- too long, it is refused by its counts too
 read_is : (P : Prog) (s : List ℕ) → read_store P s ≡ judged P s (tallied (params_of P.vars) s)
 unfolding read_store tallied
@@ -279,41 +275,103 @@ read_is P s = by (ltb 16384 (length s)) refl
     by true q = rw q
     by false q = rw q
 
-says : {o : StoreOut} {a : Answer} {t : StoreTables} {Z H C W : List ℕ} → o ≡ record { answer = a; tables = t } → tables_are Z H C W ≡ t → Says o a Z H C W
-says e f =
-    record {
-      answer = sym (ap (λ (o : StoreOut). o.answer) e);
-      size = ap (λ (t : StoreTables). t.size) f ∙ sym (ap (λ (o : StoreOut). o.tables.size) e);
-      heads = ap (λ (t : StoreTables). t.heads) f ∙ sym (ap (λ (o : StoreOut). o.tables.heads) e);
-      cells = ap (λ (t : StoreTables). t.cells) f ∙ sym (ap (λ (o : StoreOut). o.tables.cells) e);
-      vals = ap (λ (t : StoreTables). t.vals) f ∙ sym (ap (λ (o : StoreOut). o.tables.vals) e);
-    }
+-- a store by its answer and its tables, kept or not
+module _ (a : Answer) (o : StoreTables) where
+  kept_err : {b : Answer} {t : StoreTables} → Err b ≡ outcome a → Filled (kept_store a o) (Err b) t
+  kept_err {b} {t} e = record { answer = e; tables = by (passes a) refl }
+    where
+      by : (p : Bool) → passes a ≡ p → no_store_tables ≡ when (passes a) (λ _. o) (λ _. no_store_tables)
+      by true q = let z = rw q at e in absurd (cc z)
+      by false q = rw q
 
-module _ (P : Prog) (s : List ℕ) {params : ℕ} (ep : params ≡ params_of P.vars) {a : Answer} {c : StoreCount} (ea : counted_out a c ≡ tallied params s) where
-  counted_is : read_store P s ≡ judged P s (counted_out a c)
-  counted_is = read_is P s ∙ ap (judged P s) (sym (ea ∙ ap (λ (n : ℕ). tallied n s) ep))
+  kept_as : {r : Result Unit Answer} → r ≡ outcome a → Filled (kept_store a o) r o
+  kept_as e = subst (λ (r : Result Unit Answer). Filled (kept_store a o) r o) (sym e) (by (passes a) refl)
+    where
+      by : (p : Bool) → passes a ≡ p → Filled (kept_store a o) (outcome a) o
+      by true q = record { answer = refl; tables = rw q }
+      by false q = record { answer = refl; tables = rw q }
 
-  pub by_counts : (a.number ≡ 0 → ⊥) → {Z H C W : List ℕ} → tables_are Z H C W ≡ no_store_tables → Says (read_store P s) a Z H C W
-  by_counts n f = says {t = no_store_tables} (counted_is ∙ rw (ne_eqb a.number 0 n, ne_eqb a.number 0 n)) f
+-- a stage that refuses, or not, before the later ones
+module _ (a : Answer) (later : One → Answer) {r : Result Unit Answer} (e : r ≡ outcome a) where
+  stage_err : {b : Answer} → r ≡ Err b → Err b ≡ outcome (and_then a later)
+  stage_err {b} f = by (passes a) refl
+    where
+      by : (p : Bool) → passes a ≡ p → Err b ≡ outcome (and_then a later)
+      by true q = let z = rw q at e in absurd (cc z)
+      by false q = rw q (sym f ∙ e)
 
-  module _ (za : a.number ≡ 0) {b : Answer} (eb : b ≡ store_names s P.rows c) where
-    pub by_names : (b.number ≡ 0 → ⊥) → {Z H C W : List ℕ} → tables_are Z H C W ≡ no_store_tables → Says (read_store P s) b Z H C W
-    by_names n f = says {t = no_store_tables} (counted_is ∙ rw (eq-eqb a.number 0 za, ← eb, ne_eqb b.number 0 n, ne_eqb b.number 0 n)) f
+  stage_ok : {u : Unit {0}} → r ≡ Ok u → and_then a later ≡ later tt
+  stage_ok f = by (passes a) refl
+    where
+      by : (p : Bool) → passes a ≡ p → and_then a later ≡ later tt
+      by true q = rw q
+      by false q = let z = rw q at e in absurd (cc z)
 
-    module _ (zb : b.number ≡ 0) {X Y U Q : List ℕ} (et : tables_are X Y U Q ≡ fill_store s P.vars c) {r : Answer} (er : r ≡ store_fits P (tables_are X Y U Q)) where
-      fits_is : r ≡ store_fits P (fill_store s P.vars c)
-      fits_is = er ∙ ap (store_fits P) et
+-- a text of which nothing was refused yet
+abbrev going : Prog → List ℕ → StoreCount → StoreOut
+going P s c = kept_store (and_then (store_names s P.rows c) (λ _. store_fits P (fill_store s P.vars c))) (fill_store s P.vars c)
 
-      pub by_fits : (r.number ≡ 0 → ⊥) → {Z H C W : List ℕ} → tables_are Z H C W ≡ no_store_tables → Says (read_store P s) r Z H C W
-      by_fits n f = says {t = no_store_tables} (counted_is ∙ rw (eq-eqb a.number 0 za, ← eb, eq-eqb b.number 0 zb, ← fits_is, ne_eqb r.number 0 n)) f
+-- the answer of a text that its counts refuse
+abbrev pub answered : Result StoreCount Tally → Result StoreCount Answer
+answered (Ok c) = Ok c
+answered (Err t) = Err t.answer
 
-      pub by_none : r.number ≡ 0 → Says (read_store P s) r X Y U Q
-      by_none z = says {t = fill_store s P.vars c} (counted_is ∙ rw (eq-eqb a.number 0 za, ← eb, eq-eqb b.number 0 zb, ← fits_is, eq-eqb r.number 0 z)) et
+-- by its counts
+abbrev Counts : Prog → List ℕ → StoreOut → Result StoreCount Tally → Type 0
+Counts P s o (Ok c) = o ≡ going P s c
+Counts P s o (Err t) = (T : StoreTables) → Filled o (Err t.answer) T
+
+counts : (P : Prog) (s : List ℕ) (x : Counted) → Counts P s (judged P s x) (passed x)
+counts P s (counted_out a c) = by (passes a) refl
+  where
+    later : One → Answer
+    later _ = and_then (store_names s P.rows c) (λ _. store_fits P (fill_store s P.vars c))
+
+    by : (p : Bool) → passes a ≡ p → Counts P s (judged P s (counted_out a c)) (passed (counted_out a c))
+    by true q =
+        let z : Ok c ≡ passed (counted_out a c) = rw q in
+        let y : judged P s (counted_out a c) ≡ going P s c = rw q in
+        subst (Counts P s (judged P s (counted_out a c))) z y
+    by false q =
+        let z : Err (record { answer = a; count = c }) ≡ passed (counted_out a c) = rw q in
+        let y : outcome a ≡ Err a = rw q in
+        subst (Counts P s (judged P s (counted_out a c))) z (λ T. kept_err (and_then a later) (fill_store s P.vars c) (stage_err a later {r = outcome a} refl y))
+
+module _ (P : Prog) (s : List ℕ) {params : ℕ} (ep : params ≡ params_of P.vars) {r : Result StoreCount Tally} (er : r ≡ passed (tallied params s)) where
+  by_count : Counts P s (read_store P s) r
+  by_count = rw (er, ep, read_is P s) (counts P s (tallied (params_of P.vars) s))
+
+  pub by_counts : {m : Result StoreCount Answer} → m ≡ answered r → {a : Answer} → m ≡ Err a → {T : StoreTables} → Filled (read_store P s) (Err a) T
+  by_counts {m} x {a} y {T} = by r by_count (sym x ∙ y)
+    where
+      by : (r : Result StoreCount Tally) → Counts P s (read_store P s) r → answered r ≡ Err a → Filled (read_store P s) (Err a) T
+      by (Ok c) h z = absurd (cc z)
+      by (Err t) h z = let e : t.answer ≡ a = cc z in subst (λ (x : Answer). Filled (read_store P s) (Err x) T) e (h T)
+
+  module _ {c : StoreCount} (ec : r ≡ Ok c) {n : Result Unit Answer} (en : n ≡ outcome (store_names s P.rows c)) where
+    by_going : read_store P s ≡ going P s c
+    by_going = subst (Counts P s (read_store P s)) ec by_count
+
+    pub by_names : {a : Answer} → n ≡ Err a → {T : StoreTables} → Filled (read_store P s) (Err a) T
+    by_names e = rw by_going (kept_err (and_then (store_names s P.rows c) _) (fill_store s P.vars c) (stage_err (store_names s P.rows c) (λ _. store_fits P (fill_store s P.vars c)) en e))
+
+    pub by_fits : {u : Unit {0}} → n ≡ Ok u → {T : StoreTables} → T ≡ fill_store s P.vars c → {q : Result Unit Answer} → q ≡ outcome (store_fits P T) → Filled (read_store P s) q T
+    by_fits e f g = rw (by_going, f, stage_ok (store_names s P.rows c) (λ _. store_fits P (fill_store s P.vars c)) en e) (kept_as (store_fits P (fill_store s P.vars c)) (fill_store s P.vars c) (g ∙ rw f))
 
 -- what the counts of a text that was not refused allow
-module _ (params : ℕ) (s : List ℕ) {a : Answer} {c : StoreCount} (e : counted_out a c ≡ tallied params s) (z : a.number ≡ 0) where
-  pub counts_few : Few 291 c
-  counts_few = subst (FewCounted 291) (sym e) (tally_few params s) z
+abbrev Allows : List ℕ → Result StoreCount Tally → Type 0
+Allows s (Ok c) = Few 291 c × (length s ≤ 16384)
+Allows s (Err t) = Unit
 
-  pub text_short : length s ≤ 16384
-  text_short = subst (Short s) (sym e) (tally_short params s) z
+module _ (params : ℕ) (s : List ℕ) {r : Result StoreCount Tally} (e : r ≡ passed (tallied params s)) where
+  allows : Allows s r
+  allows = rw e (by (tallied params s) (tally_few params s) (tally_short params s))
+    where
+      by : (x : Counted) → FewCounted 291 x → Short s x → Allows s (passed x)
+      by (counted_out a c) f h = by_when (Allows s) (passes a) _ _ (λ q. let z = eqb-true a.number 0 q in (f z, h z)) (λ _. tt)
+
+  pub counts_few : {c : StoreCount} → r ≡ Ok c → Few 291 c
+  counts_few q = (subst (Allows s) q allows).0
+
+  pub text_short : {c : StoreCount} → r ≡ Ok c → length s ≤ 16384
+  text_short q = (subst (Allows s) q allows).1

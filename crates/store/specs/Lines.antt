@@ -16,14 +16,15 @@ pub record Near (most : ℕ) (s : List ℕ) (at : ℕ) : Type 0 where
   pub near : at ≤ most
   pub short : length s ≤ limits.store
 
+-- a place in a text, or its end
+abbrev pub Inside : List ℕ → ℕ → Type 0
+Inside s at = Near (length s) s at
+
 -- by the place after the key
 abbrev pub block_line : List ℕ → ℕ → BlockLine
 block_line s at = record { row = row_of s at; tag = value_of (tag_word s at); count = cell_count s at; start = cells_start s at }
 
 -- only a parameter takes an argument
-abbrev pub takes_one : Var → ℕ
-takes_one d = when d.is_local (λ _. 0) (λ _. 1)
-
 abbrev pub taken : List ℕ → Var → ℕ → Taken
 taken s d at =
     when d.is_local

@@ -2,8 +2,8 @@
 // Each stage is a pass over the text. A function that needs few of the tables says what holds for all the others.
 #![tactic(auto)]
 
-ghost use Rattle.std.specs.Prelude.{◌≡◌, List, ℕ, ◌+◌, ◌≤◌, length, get_or};
-ghost use Rattle.rules.specs.Answers.{first};
+ghost use Rattle.std.specs.Prelude.{◌≡◌, List, ℕ, ◌+◌, ◌≤◌, ◌==◌, length, get_or, position};
+ghost use Rattle.rules.specs.Answers.{answer, first, outcome};
 ghost use Rattle.rules.specs.Environments.{no_var};
 ghost use Rattle.rules.specs.View.{rows_from, vars_from, program};
 ghost use Rattle.rules.specs.Machine.Tables.{code_of};
@@ -13,8 +13,8 @@ ghost use Rattle.program.specs.Lines.{tables_of};
 ghost use Rattle.rules.specs.Program.{Var};
 ghost use Rattle.rules.specs.declared.StoreCount.{StoreCount as Counts};
 ghost use Rattle.tally.specs.Counts.{Few};
-ghost use Rattle.store.specs.Lines.{Near, block_line, takes_one, taken};
-ghost use Rattle.store.specs.Says.{tables_are, Says};
+ghost use Rattle.store.specs.Lines.{Inside, Near, block_line, taken};
+ghost use Rattle.store.specs.Says.{tables_are, Filled, Says};
 
 use rules::{Answer, Datum, Kind, Num, StoreCount};
 use tally::{arg_word, block_words, cell_word};
@@ -41,19 +41,25 @@ struct Taken {
 
 // ---- places in the text
 
+// Where the first line feed stands.
+fn first_feed(s: &[u8]) -> Option<usize>
+    ensures { result ≡ position (λ b. b == 10) s.now }
+{
+    s.iter().position(|b| *b == b'\n')
+}
+
 // The place after the next line feed.
-#[tactic(auto, using(crate::proofs::Ways::line_found, crate::proofs::Ways::line_none, crate::proofs::Ways::line_on), unfolding(rules::specs::Store::Fill::next_line))]
+#[tactic(auto, using(crate::proofs::Ways::line_found, crate::proofs::Ways::line_none, crate::proofs::Ways::line_past), unfolding(rules::specs::Store::Fill::next_line))]
 fn next_line(s: &[u8], at: usize) -> usize
     ensures { result ≡ fills.next_line s.now at }
 {
-    let mut i = at;
-    while i < s.len() {
-        if s[i] == 10 {
-            return i + 1;
-        }
-        i += 1;
+    if s.len() <= at {
+        return at;
     }
-    i
+    match first_feed(&s[at..]) {
+        Some(k) => at + k + 1,
+        None => s.len(),
+    }
 }
 
 #[tactic(auto, using(crate::proofs::Ways::line_is))]
@@ -89,13 +95,10 @@ fn cells_there(s: &[u8], blocks: usize, n: usize, at: usize) -> bool
     requires { (blocks ≤ 256) × ((n ≤ 16384) × Near 65536 s.now at) }
     ensures { result ≡ fills.cells_there s.now blocks n at }
 {
-    let mut left = n;
     let mut i = at;
-    while 0 < left {
-        left -= 1;
+    for _ in 0..n {
         let r = cell_word(s, i);
-        let w = value_of(r);
-        if !datum_there(blocks, w) {
+        if !datum_there(blocks, value_of(r)) {
             return false;
         }
         i = next_of(r) + 1;
@@ -110,68 +113,59 @@ fn block_there(s: &[u8], size: &[u32; 6], blocks: usize, at: usize) -> bool
     ensures { (R : List ℕ) → result ≡ fills.block_there s.now (rows_from size.now R) blocks at }
 {
     let b = block_line(s, at);
-    let row = b.row as usize;
-    let n = b.count;
-    let start = b.start;
-    if program::row_there(size, row) {
-        cells_there(s, blocks, n, start)
-    } else {
-        false
-    }
+    program::row_there(size, b.row as usize) && cells_there(s, blocks, b.count, b.start)
+}
+
+// Answer 24, at a line.
+fn absent(line: usize) -> Answer
+    ensures { result ≡ answer 24 line }
+{
+    Answer { number: 24, line }
 }
 
 // One turn an argument line, the first of them at `at`.
 #[tactic(auto, using(crate::proofs::Ways::args_done, crate::proofs::Ways::args_go, crate::proofs::Ways::args_not, crate::proofs::Ways::next_near))]
-fn arg_names(s: &[u8], blocks: usize, args: usize, at: usize, line: usize) -> Answer
-    requires { (blocks ≤ 256) × ((args ≤ 291) × ((line ≤ 258) × Near (length s.now) s.now at)) }
-    ensures { result ≡ first line (fills.arg_names s.now blocks args at) }
+fn arg_names(s: &[u8], blocks: usize, args: usize, at: usize, line: usize) -> Result<(), Answer>
+    requires { (blocks ≤ 256) × ((args ≤ 291) × ((line ≤ 258) × Inside s.now at)) }
+    ensures { result ≡ outcome (first line (fills.arg_names s.now blocks args at)) }
 {
-    let mut left = args;
     let mut i = at;
-    let mut here = line;
-    while 0 < left {
-        left -= 1;
-        let r = arg_word(s, i + 4);
-        let w = value_of(r);
+    for here in line..line + args {
+        let w = value_of(arg_word(s, i + 4));
         if !datum_there(blocks, w) {
-            return Answer {
-                number: 24,
-                line: here,
-            };
+            return Err(absent(here));
         }
         i = next_line(s, i);
-        here += 1;
     }
-    Answer { number: 0, line: 0 }
+    Ok(())
 }
 
 // One turn a block line, the first of them at `at`; then the arguments. `run=` is line 1.
 #[tactic(auto, using(crate::proofs::Ways::blocks_done, crate::proofs::Ways::blocks_go, crate::proofs::Ways::blocks_not, crate::proofs::Ways::next_near))]
-fn block_names(s: &[u8], size: &[u32; 6], blocks: usize, args: usize, at: usize) -> Answer
-    requires { (blocks ≤ 256) × ((args ≤ 291) × Near (length s.now) s.now at) }
-    ensures { (R : List ℕ) → result ≡ first 2 (fills.block_names s.now (rows_from size.now R) blocks args blocks at) }
+fn block_names(
+    s: &[u8],
+    size: &[u32; 6],
+    blocks: usize,
+    args: usize,
+    at: usize,
+) -> Result<(), Answer>
+    requires { (blocks ≤ 256) × ((args ≤ 291) × Inside s.now at) }
+    ensures { (R : List ℕ) → result ≡ outcome (first 2 (fills.block_names s.now (rows_from size.now R) blocks args blocks at)) }
 {
-    let mut left = blocks;
     let mut i = at;
-    let mut here = 2;
-    while 0 < left {
-        left -= 1;
+    for here in 2..2 + blocks {
         if !block_there(s, size, blocks, i + 6) {
-            return Answer {
-                number: 24,
-                line: here,
-            };
+            return Err(absent(here));
         }
         i = next_line(s, i);
-        here += 1;
     }
-    arg_names(s, blocks, args, i, here)
+    arg_names(s, blocks, args, i, 2 + blocks)
 }
 
 #[tactic(auto, using(crate::proofs::Ways::next_near, crate::proofs::Ways::start_near), unfolding(rules::specs::Store::Fill::store_names))]
-fn store_names(s: &[u8], size: &[u32; 6], c: StoreCount) -> Answer
+fn store_names(s: &[u8], size: &[u32; 6], c: StoreCount) -> Result<(), Answer>
     requires { (length s.now ≤ 16384) × Few 291 c }
-    ensures { (R : List ℕ) → result ≡ fills.store_names s.now (rows_from size.now R) c }
+    ensures { (R : List ℕ) → result ≡ outcome (fills.store_names s.now (rows_from size.now R) c) }
 {
     let at = next_line(s, 0);
     block_names(s, size, c.blocks, c.args, at)
@@ -183,7 +177,7 @@ fn store_names(s: &[u8], size: &[u32; 6], c: StoreCount) -> Answer
 fn kept_cells(n: usize) -> usize
     ensures { result ≡ fills.kept_cells n }
 {
-    if KEPT < n { KEPT } else { n }
+    n.min(KEPT)
 }
 
 // One turn a cell of block k.
@@ -192,14 +186,10 @@ fn fill_cells(s: &[u8], k: usize, n: usize, at: usize, cells: &mut [u64; 4352])
     requires { (n ≤ 16384) × Near 65536 s.now at }
     ensures { cells.new ≡ fills.fill_cells s.now k n 0 at cells.old }
 {
-    let mut left = n;
-    let mut o = 0;
     let mut i = at;
-    while 0 < left {
-        left -= 1;
+    for o in 0..n {
         let r = cell_word(s, i);
         storage::put_cell(cells, k, o, value_of(r));
-        o += 1;
         i = next_of(r) + 1;
     }
 }
@@ -226,18 +216,14 @@ fn fill_blocks(
     heads: &mut [u32; 768],
     cells: &mut [u64; 4352],
 ) -> usize
-    requires { (blocks ≤ 256) × Near (length s.now) s.now at }
-    ensures near { Near (length s.now) s.now result }
+    requires { (blocks ≤ 256) × Inside s.now at }
+    ensures near { Inside s.now result }
     ensures fills { (D : List Var) (c : Counts) → fills.fill_blocks s.now D c 0 blocks result heads.new cells.new ≡ fills.fill_blocks s.now D c blocks 0 at heads.old cells.old }
 {
-    let mut left = blocks;
-    let mut k = 0;
     let mut i = at;
-    while 0 < left {
-        left -= 1;
+    for k in 0..blocks {
         fill_block(s, k, i + 6, heads, cells);
         i = next_line(s, i);
-        k += 1;
     }
     i
 }
@@ -256,7 +242,7 @@ fn local_code(k: Kind, n: Num) -> u64
 // A local has a number of its own; a parameter takes the argument at `at`.
 #[tactic(auto, using(crate::proofs::Ways::val_local, crate::proofs::Ways::val_param), unfolding(rules::specs::Program::kind_at))]
 fn val_of(s: &[u8], size: &[u32; 6], vars: &[u32; 96], v: usize, at: usize) -> Taken
-    requires { Near (length s.now) s.now at }
+    requires { Inside s.now at }
     ensures { result ≡ taken s.now (get_or (vars_from size.now vars.now) v no_var) at }
 {
     if program::is_local(size, vars, v) {
@@ -267,9 +253,8 @@ fn val_of(s: &[u8], size: &[u32; 6], vars: &[u32; 96], v: usize, at: usize) -> T
             next: at,
         }
     } else {
-        let r = arg_word(s, at + 4);
         Taken {
-            code: value_of(r),
+            code: value_of(arg_word(s, at + 4)),
             next: next_line(s, at),
         }
     }
@@ -278,17 +263,14 @@ fn val_of(s: &[u8], size: &[u32; 6], vars: &[u32; 96], v: usize, at: usize) -> T
 // One turn a variable, the first argument line at `at`.
 #[tactic(auto, using(crate::proofs::Ways::vals_done))]
 fn fill_vals(s: &[u8], size: &[u32; 6], vars: &[u32; 96], at: usize, vals: &mut [u64; 32])
-    requires { Near (length s.now) s.now at }
+    requires { Inside s.now at }
     ensures { vals.new ≡ fills.fill_vals s.now (vars_from size.now vars.now) 0 at vals.old }
 {
-    let n = program::var_count(size);
-    let mut v = 0;
     let mut i = at;
-    while v < n {
+    for v in 0..program::var_count(size) {
         let t = val_of(s, size, vars, v, i);
         storage::put_val(vals, v, t.code);
         i = t.next;
-        v += 1;
     }
 }
 
@@ -332,34 +314,41 @@ fn clear(
     storage::clear_vals(vals);
 }
 
-// 1 for a variable that takes an argument.
-fn takes(size: &[u32; 6], vars: &[u32; 96], v: usize) -> usize
-    ensures { result ≡ takes_one (get_or (vars_from size.now vars.now) v no_var) }
-{
-    if program::is_local(size, vars, v) {
-        0
-    } else {
-        1
-    }
-}
-
 // How many variables take an argument.
-#[tactic(auto, using(crate::proofs::Ways::params_done, crate::proofs::Ways::params_one, crate::proofs::Ways::takes_most))]
+#[tactic(auto, using(crate::proofs::Ways::params_done, crate::proofs::Ways::params_local, crate::proofs::Ways::params_one))]
 fn params_of(size: &[u32; 6], vars: &[u32; 96]) -> usize
     ensures { result ≡ params_of (vars_from size.now vars.now) }
 {
-    let n = program::var_count(size);
-    let mut v = 0;
     let mut params = 0;
-    while v < n {
-        params += takes(size, vars, v);
-        v += 1;
+    for v in 0..program::var_count(size) {
+        if !program::is_local(size, vars, v) {
+            params += 1;
+        }
     }
     params
 }
 
-// Answers 21 to 27, or 0 with the store in the tables. Whatever they held before, they are all 0 on a refusal.
+// Stage after stage: on a refusal the tables are as the stage before left them.
 #[tactic(auto, using(crate::proofs::Ways::counts_few, crate::proofs::Ways::text_short))]
+fn stages(
+    s: &[u8],
+    size: &[u32; 6],
+    rows: &[u32; 17536],
+    vars: &[u32; 96],
+    store: &mut [u32; 2],
+    heads: &mut [u32; 768],
+    cells: &mut [u64; 4352],
+    vals: &mut [u64; 32],
+) -> Result<(), Answer>
+    ensures { (N L B : List ℕ) → Filled (read_store (program (tables_of size.now N rows.now vars.now L B)) s.now) result (tables_are store.new heads.new cells.new vals.new) }
+{
+    let c = tally::tallied(s, params_of(size, vars)).map_err(|t| t.answer)?;
+    store_names(s, size, c)?;
+    fill(s, size, vars, c, store, heads, cells, vals);
+    fits::fitted(size, rows, vars, store, heads, cells, vals)
+}
+
+// The store in the tables, or one of the answers 21 to 27. Whatever they held before, they are all 0 on a refusal.
 pub fn read(
     s: &[u8],
     size: &[u32; 6],
@@ -369,25 +358,12 @@ pub fn read(
     heads: &mut [u32; 768],
     cells: &mut [u64; 4352],
     vals: &mut [u64; 32],
-) -> Answer
+) -> Result<(), Answer>
     ensures { (N L B : List ℕ) → Says (read_store (program (tables_of size.now N rows.now vars.now L B)) s.now) result store.new heads.new cells.new vals.new }
 {
-    let t = tally::tallied(s, params_of(size, vars));
-    let a = t.answer;
-    let c = t.count;
-    if a.number != 0 {
-        clear(store, heads, cells, vals);
-        return a;
-    }
-    let b = store_names(s, size, c);
-    if b.number != 0 {
-        clear(store, heads, cells, vals);
-        return b;
-    }
-    fill(s, size, vars, c, store, heads, cells, vals);
-    let last = fits::fitted(size, rows, vars, store, heads, cells, vals);
-    if last.number != 0 {
+    let r = stages(s, size, rows, vars, store, heads, cells, vals);
+    if r.is_err() {
         clear(store, heads, cells, vals);
     }
-    last
+    r
 }
