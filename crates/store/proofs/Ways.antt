@@ -41,13 +41,16 @@ use Rattle.store.specs.Says.{tables_are, Filled}
 abbrev is_feed : ℕ → Bool
 is_feed b = b == 10
 
--- the place of the first one, or the length
-line_at : (l : List ℕ) (i : ℕ) → line_after l i ≡ i + cond (nat_lt (position_or_len is_feed l) (length l)) (position_or_len is_feed l + 1) (position_or_len is_feed l)
+-- how many bytes to the first one and with it, or all
+abbrev up_to_feed : List ℕ → ℕ
+up_to_feed l = cond (nat_lt (position_or_len is_feed l) (length l)) (position_or_len is_feed l + 1) (position_or_len is_feed l)
+
+line_at : (l : List ℕ) (i : ℕ) → line_after l i ≡ i + up_to_feed l
 unfolding line_after
 line_at [] i = omega arith
 line_at (b ∷ l) i = by (line_at l (i + 1)) (is_feed b) refl
   where
-    by : line_after l (i + 1) ≡ i + 1 + cond (nat_lt (position_or_len is_feed l) (length l)) (position_or_len is_feed l + 1) (position_or_len is_feed l) → (t : Bool) → is_feed b ≡ t → line_after (b ∷ l) i ≡ i + cond (nat_lt (position_or_len is_feed (b ∷ l)) (suc (length l))) (position_or_len is_feed (b ∷ l) + 1) (position_or_len is_feed (b ∷ l))
+    by : line_after l (i + 1) ≡ i + 1 + up_to_feed l → (t : Bool) → is_feed b ≡ t → line_after (b ∷ l) i ≡ i + up_to_feed (b ∷ l)
     by h true e = rw e (grind (arith, nat_tests))
     by h false e = rw e (grind (arith, nat_tests))
 
@@ -58,18 +61,17 @@ module _ (s : List ℕ) (at : ℕ) where
 
   -- the rest of the text, as the code takes it
   module _ {o : Option ℕ} (f : o ≡ position is_feed (take (length s - at) (drop at s))) where
-    e : o ≡ position is_feed (drop at s)
-    e = f ∙ ap (position is_feed) (take_all (length s - at) (drop at s) (omega (arith, length-drop at s)))
+    whole : o ≡ position is_feed (drop at s)
+    whole = f ∙ ap (position is_feed) (take_all (length s - at) (drop at s) (omega (arith, length-drop at s)))
 
     pub line_found : {k : ℕ} → o ≡ Some k → at + k + 1 ≡ line_after (drop at s) at
-    line_found {k} q = let c = cond_some _ _ _ (sym e ∙ q) in rw (line_at (drop at s) at, c.0) (omega (arith, c.1))
+    line_found {k} q = let c = cond_some _ _ _ (sym whole ∙ q) in rw (line_at (drop at s) at, c.0) (omega (arith, c.1))
 
     pub line_none : at < length s → o ≡ None → length s ≡ line_after (drop at s) at
     line_none h q = rw (line_at (drop at s) at) (by (nat_lt (position_or_len is_feed (drop at s)) (length (drop at s))) refl)
       where
-        by : (t : Bool) → nat_lt (position_or_len is_feed (drop at s)) (length (drop at s)) ≡ t
-            → length s ≡ at + cond (nat_lt (position_or_len is_feed (drop at s)) (length (drop at s))) (position_or_len is_feed (drop at s) + 1) (position_or_len is_feed (drop at s))
-        by true y = let z = rw y at (sym e ∙ q) in absurd (cc z)
+        by : (t : Bool) → nat_lt (position_or_len is_feed (drop at s)) (length (drop at s)) ≡ t → length s ≡ at + up_to_feed (drop at s)
+        by true y = let z = rw y at (sym whole ∙ q) in absurd (cc z)
         by false y = rw y (omega (arith, ltb-false _ _ y, prefix_len-le-length (λ (b : ℕ). not (is_feed b)) (drop at s), length-drop at s))
 
 after_most : (l : List ℕ) (i : ℕ) → line_after l i ≤ i + length l
