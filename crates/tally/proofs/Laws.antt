@@ -12,7 +12,9 @@ use Rattle.rules.proofs.Laws.Tests.{held, and_both, by_when}
 use Rattle.rules.specs.Text.Words.{byte_at, value_of, plain_at, number_at}
 use Rattle.rules.specs.Store.Text.{datum_of, place_of, cell_word, cells_on, cells_from, spaced, block_words, store_key, store_order, store_words, counted, within, StoreLine, store_line, store_limits, store_shaped, store_keyed, store_line_at, Counted, counted_out, store_end, and_store, store_lines, no_store}
 use Rattle.text.proofs.Laws.{found, Reads, right, wrong, value_most, plain_reads, number_reads, or_reads}
-use Rattle.tally.specs.Counts.{Few, lined, tallied}
+use Rattle.tally.specs.declared.StoreKey.{StoreKey}
+use Rattle.tally.specs.declared.StoreKey.TheVariants.{Run, Block, Arg}
+use Rattle.tally.specs.Counts.{key_number, Few, lined, tallied}
 
 -- ---- cells
 
@@ -64,12 +66,11 @@ key_reads s at =
     (or_reads s at (bytes "run=") 1 (omega arith) (omega arith) (omega arith) (wrong at (omega arith))))
 
 -- a budget, or a number of cells
-pub words_most : (s : List ℕ) (k at : ℕ) → length s ≤ 16384 → 1 ≤ k → k < 3 → value_of (store_words s k at) ≤ 4294967295
+pub words_most : (s : List ℕ) (key : StoreKey) (at : ℕ) → length s ≤ 16384 → key_number key < 3 → value_of (store_words s (key_number key) at) ≤ 4294967295
 unfolding store_words
-words_most s k at h l m =
-    by_when (λ (r : Reading). value_of r ≤ 4294967295) (eqb k 1) _ _ (λ _. omega (arith, value_most (plain_reads s at))) (λ e.
-    by_when (λ (r : Reading). value_of r ≤ 4294967295) (eqb k 2) _ _ (λ _. omega (arith, block_most s at)) (λ f.
-    absurd (omega (arith, eqb-false k 1 e, eqb-false k 2 f))))
+words_most s Run at h m = omega (arith, value_most (plain_reads s at))
+words_most s Block at h m = omega (arith, block_most s at)
+words_most s Arg at h m = absurd (omega arith)
 
 -- ---- counts
 

@@ -5,7 +5,7 @@ ghost use Rattle.std.specs.Prelude.{◌≡◌, ◌+◌, ◌≤◌, ◌<◌, ℕ,
 ghost use Rattle.rules.specs.Limits.{limits};
 ghost use Rattle.rules.specs.Text.Words as words;
 ghost use Rattle.rules.specs.Store.Text as texts;
-ghost use Rattle.tally.specs.Counts.{Few, lined, passed, tallied};
+ghost use Rattle.tally.specs.Counts.{Few, key_number, keyed, lined, passed, tallied};
 
 use rules::{Answer, Limits, Reading, StoreCount};
 use text::{byte_at, byte_is, number_at, or_word, plain_at};
@@ -18,6 +18,14 @@ const LINES: usize = 290;
 pub struct Tally {
     pub answer: Answer,
     pub count: StoreCount,
+}
+
+// What a line of a store text begins with.
+#[derive(Clone, Copy)]
+enum StoreKey {
+    Run,
+    Block,
+    Arg,
 }
 
 // The byte after a line, and the counts; or its answer, and the counts up to it.
@@ -100,62 +108,68 @@ pub fn block_words(s: &[u8], at: usize) -> Reading
 
 // ---- a line by its key
 
-// `run=` is 1, `block=` 2, `arg=` 3.
+// `run=`, `block=` or `arg=`, and the byte after it; or the first wrong byte.
 #[tactic(auto, unfolding(rules::specs::Store::Text::store_key))]
-fn store_key(s: &[u8], at: usize) -> Reading
-    ensures { result ≡ texts.store_key s.now at }
+fn store_key(s: &[u8], at: usize) -> Result<(StoreKey, usize), usize>
+    ensures { keyed result ≡ texts.store_key s.now at }
 {
     let r = or_word(s, at, b"run=", 1, Err(at));
     let r = or_word(s, at, b"block=", 2, r);
-    or_word(s, at, b"arg=", 3, r)
+    let (k, n) = or_word(s, at, b"arg=", 3, r)?;
+    let key = match k {
+        1 => StoreKey::Run,
+        2 => StoreKey::Block,
+        _ => StoreKey::Arg,
+    };
+    Ok((key, n))
 }
 
-// Whether a line with the key k may come after what was counted.
+// Whether a line with such a key may come after what was counted.
 #[tactic(auto, unfolding(rules::specs::Store::Text::store_order))]
-fn store_order(params: usize, c: StoreCount, k: u64) -> bool
-    ensures { result ≡ texts.store_order params c k }
+fn store_order(params: usize, c: StoreCount, key: StoreKey) -> bool
+    ensures { result ≡ texts.store_order params c (key_number key) }
 {
-    match k {
-        1 => c.part == 0,
-        2 => c.part == 1,
-        _ => 0 < c.part && c.args < params,
+    match key {
+        StoreKey::Run => c.part == 0,
+        StoreKey::Block => c.part == 1,
+        StoreKey::Arg => 0 < c.part && c.args < params,
     }
 }
 
-// What stands after the key of number k.
+// What stands after such a key.
 #[tactic(auto, unfolding(rules::specs::Store::Text::store_words))]
-fn store_words(s: &[u8], k: u64, at: usize) -> Reading
-    ensures { result ≡ texts.store_words s.now k at }
+fn store_words(s: &[u8], key: StoreKey, at: usize) -> Reading
+    ensures { result ≡ texts.store_words s.now (key_number key) at }
 {
-    match k {
-        1 => plain_at(s, at),
-        2 => block_words(s, at),
-        _ => arg_word(s, at),
+    match key {
+        StoreKey::Run => plain_at(s, at),
+        StoreKey::Block => block_words(s, at),
+        StoreKey::Arg => arg_word(s, at),
     }
 }
 
-// The counts after a line with the key k and the value v. An argument's datum is not counted, so it may be of any size.
+// The counts after a line with such a key and the value v. An argument's datum is not counted, so it may be of any size.
 #[tactic(auto, unfolding(rules::specs::Store::Text::counted))]
-fn counted(c: StoreCount, k: u64, v: u64) -> StoreCount
-    requires { Few 290 c × ((k < 3 → v ≤ 4294967295)) }
-    ensures { result ≡ texts.counted c k v }
+fn counted(c: StoreCount, key: StoreKey, v: u64) -> StoreCount
+    requires { Few 290 c × ((key_number key < 3 → v ≤ 4294967295)) }
+    ensures { result ≡ texts.counted c (key_number key) v }
 {
-    match k {
-        1 => StoreCount {
+    match key {
+        StoreKey::Run => StoreCount {
             part: 1,
             budget: v as u32,
             blocks: 0,
             cells: 0,
             args: 0,
         },
-        2 => StoreCount {
+        StoreKey::Block => StoreCount {
             blocks: c.blocks + 1,
             cells: c.cells + v as usize,
             part: 1,
             args: 0,
             ..c
         },
-        _ => StoreCount {
+        StoreKey::Arg => StoreCount {
             part: 2,
             args: c.args + 1,
             ..c
@@ -184,31 +198,31 @@ fn limited(next: usize, c: StoreCount) -> Lined
 
 // A line from the place after its key on.
 #[tactic(auto, using(crate::proofs::Laws::words_most), unfolding(rules::specs::Text::Words::byte_is))]
-fn keyed_line(s: &[u8], params: usize, c: StoreCount, k: u64, at: usize) -> Lined
-    requires { (length s.now ≤ limits.store) × (Few 290 c × ((1 ≤ k))) }
-    ensures { (start : ℕ) → result ≡ lined (texts.store_keyed s.now params start c (Ok (k, at))) }
+fn keyed_line(s: &[u8], params: usize, c: StoreCount, key: StoreKey, at: usize) -> Lined
+    requires { (length s.now ≤ limits.store) × Few 290 c }
+    ensures { (start : ℕ) → result ≡ lined (texts.store_keyed s.now params start c (Ok (key_number key, at))) }
 {
-    if !store_order(params, c, k) {
+    if !store_order(params, c, key) {
         return Err((22, c));
     }
-    let Ok((v, n)) = store_words(s, k, at) else {
+    let Ok((v, n)) = store_words(s, key, at) else {
         return Err((22, c));
     };
     let Ok(next) = byte_is(s, n, b'\n') else {
         return Err((22, c));
     };
-    limited(next, counted(c, k, v))
+    limited(next, counted(c, key, v))
 }
 
-#[tactic(auto, using(crate::proofs::Laws::key_reads, text::proofs::Laws::got), unfolding(rules::specs::Store::Text::store_line_at))]
+#[tactic(auto, unfolding(rules::specs::Store::Text::store_line_at))]
 fn line_at(s: &[u8], params: usize, at: usize, c: StoreCount) -> Lined
     requires { (length s.now ≤ limits.store) × Few 290 c }
     ensures { result ≡ lined (texts.store_line_at s.now params at c) }
 {
-    let Ok((k, n)) = store_key(s, at) else {
+    let Ok((key, n)) = store_key(s, at) else {
         return Err((22, c));
     };
-    keyed_line(s, params, c, k, n)
+    keyed_line(s, params, c, key, n)
 }
 
 // ---- the text, whole
