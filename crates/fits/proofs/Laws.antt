@@ -1,50 +1,24 @@
--- Laws of the ways through each function: a datum, a block, the block lines and the argument lines. Assumes nothing.
+-- Laws of the ways through a pass: the cells of a block, the block lines and the argument lines. Assumes nothing.
 use native.Mathlib.Numerals.{add-one}
 use lib.ListN.{length-map}
-use borrow.Author.Tests.{lt-ltb, le-ltb, eq-eqb, ne_eqb}
 use Rattle.std.specs.Prelude.{◌+◌, ◌<◌, ◌≤◌, ◌&&◌, ◌∷◌, ◌≡◌, None}
-use Rattle.rules.specs.Prelude.{ℕ, Bool, true, false, List, map, sym, ◌∙◌, eqb, length, get_or, drop}
+use Rattle.rules.specs.Prelude.{ℕ, Bool, true, false, List, map, sym, ◌∙◌, length, get_or, drop}
 use Rattle.rules.specs.declared.Answer.{Answer}
-use Rattle.rules.specs.declared.Kind.{Kind}
 use Rattle.rules.specs.declared.Kind.TheVariants.{Value}
 use Rattle.rules.specs.Machine.{Given}
 use Rattle.rules.specs.When.{when, need}
 use Rattle.rules.specs.Answers.{answer, accepted, and_then, first}
-use Rattle.rules.specs.Program.{Prog, Rows, Var, loosest, prods_of, fields_of, field_of, kind_at}
+use Rattle.rules.specs.Program.{Prog, Rows, Var, loosest, field_of, kind_at}
 use Rattle.rules.specs.Environments.{no_var}
-use Rattle.rules.specs.Machine.{Store, block_at, row_in, tag_in, cells_in, inside, cell_at, ev_var}
+use Rattle.rules.specs.Machine.{Store, block_at, row_in, tag_in, cells_in, cell_at, ev_var}
 use Rattle.rules.specs.Machine.Tables.{store_of, vals_of}
-use Rattle.rules.specs.Fits.{fits_place, fits, right_shape, cells_fit, block_number, arg_numbers}
+use Rattle.rules.specs.Fits.{fits, cells_fit, block_number, arg_numbers}
 use Rattle.rules.specs.Store.Fill.{StoreTables}
 use Rattle.rules.specs.Store.{store_fits}
 use Rattle.rules.proofs.Sound.StepTables.{vals_length}
 use Rattle.table.proofs.Passes.{left_more, left_none, all_on, all_no, first_append, then_on, then_no}
 
--- ---- data
-
-module _ (s : Store) (r b o row : ℕ) (e : row ≡ row_in s b) where
-  pub place_in : row ≡ r → o ≡ 0 → inside s b o ≡ fits_place s r loosest b o
-  unfolding fits_place
-  place_in h z = rw (sym e, eq-eqb row r h, z)
-
-  pub place_past : row ≡ r → (o ≡ 0 → ⊥) → false ≡ fits_place s r loosest b o
-  unfolding fits_place
-  place_past h z = rw (sym e, eq-eqb row r h, ne_eqb 0 o (λ q. z (sym q)))
-
-  pub place_apart : (row ≡ r → ⊥) → false ≡ fits_place s r loosest b o
-  unfolding fits_place
-  place_apart h = rw (sym e, ne_eqb row r h)
-
 -- ---- a block
-
-module _ (ρ : Rows) (s : Store) (k r t n : ℕ) (er : r ≡ row_in s k) (et : t ≡ tag_in s k) (en : n ≡ prods_of ρ r) where
-  pub shape_cells : t < n → (c f : ℕ) → c ≡ cells_in s k → f ≡ fields_of ρ r t → eqb c f ≡ right_shape ρ (block_at s k)
-  unfolding row_in tag_in cells_in
-  shape_cells h c f ec ef = rw (sym er, sym et, sym ec, sym en, sym ef, lt-ltb t n h)
-
-  pub shape_tag : n ≤ t → false ≡ right_shape ρ (block_at s k)
-  unfolding row_in tag_in
-  shape_tag h = rw (sym er, sym et, sym en, le-ltb t n h)
 
 -- the cells of block k from o on
 abbrev pub cells_from : Rows → Store → ℕ → ℕ → Bool
@@ -66,25 +40,7 @@ module _ (ρ : Rows) (s : Store) (k o n : ℕ) (en : n ≡ cells_in s k) where
     pub cells_no : b ≡ false → false ≡ cells_from ρ s k o
     cells_no z = sym (all_no (cells_from ρ s k (o + 1)) cells_left z)
 
-module _ (ρ : Rows) (s : Store) (k : ℕ) (b : Bool) (eb : b ≡ right_shape ρ (block_at s k)) where
-  pub block_shape : b ≡ false → 25 ≡ block_number ρ s (block_at s k)
-  unfolding block_number
-  block_shape z = rw (sym eb, z)
-
-  module _ (z : b ≡ true) (d : Bool) (ed : d ≡ cells_from ρ s k 0) where
-    pub block_cells : d ≡ false → 26 ≡ block_number ρ s (block_at s k)
-    unfolding block_number
-    block_cells q = rw (sym eb, z, sym ed, q)
-
-    pub block_right : d ≡ true → 0 ≡ block_number ρ s (block_at s k)
-    unfolding block_number
-    block_right q = rw (sym eb, z, sym ed, q)
-
 -- ---- arguments
-
-pub arg_is : (ρ : Rows) (s : Store) (D : List Var) (W : List ℕ) (v n : ℕ) (k : Kind) (g : Given) → n ≡ length D → k ≡ kind_at D v → g ≡ ev_var (vals_of n W) v →
-    fits ρ s k loosest g ≡ fits ρ s (kind_at D v) loosest (ev_var (vals_of (length D) W) v)
-arg_is ρ s D W v n k g en ek eg = rw (ek, eg, en)
 
 -- the answer of the variables from v on, the first parameter among them on line `at`
 abbrev pub args_from : Rows → Store → List Var → List ℕ → ℕ → ℕ → Answer

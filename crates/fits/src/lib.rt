@@ -28,7 +28,7 @@ fn fits_imm(size: &[u32; 6], rows: &[u32; 17536], r: usize, n: Num) -> bool
 }
 
 // Offset o of block b, where a value of row r is asked for.
-#[tactic(auto, using(crate::proofs::Laws::place_apart, crate::proofs::Laws::place_in, crate::proofs::Laws::place_past))]
+#[tactic(auto, unfolding(rules::specs::Fits::fits_place))]
 fn fits_place(store: &[u32; 2], heads: &[u32; 768], r: usize, b: usize, o: usize) -> bool
     ensures { (C : List ℕ) → result ≡ fits_place (store_of store.now heads.now C) r loosest b o }
 {
@@ -58,7 +58,7 @@ fn given_fits(
 // ---- blocks
 
 // Block k has a tag of its row, and as many cells as that product has fields.
-#[tactic(auto, using(crate::proofs::Laws::shape_cells, crate::proofs::Laws::shape_tag))]
+#[tactic(auto, unfolding(rules::specs::Machine::row_in, rules::specs::Machine::tag_in, rules::specs::Machine::cells_in))]
 fn right_shape(
     size: &[u32; 6],
     rows: &[u32; 17536],
@@ -99,7 +99,7 @@ fn cells_fit(
 }
 
 // Block k fits its row, or the number of its answer.
-#[tactic(auto, using(crate::proofs::Laws::block_cells, crate::proofs::Laws::block_right, crate::proofs::Laws::block_shape))]
+#[tactic(auto, unfolding(rules::specs::Fits::block_number))]
 fn fit_block(
     size: &[u32; 6],
     rows: &[u32; 17536],

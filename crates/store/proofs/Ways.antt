@@ -10,8 +10,6 @@ use Rattle.std.proofs.lemmas.Bool.Decides.{nat_tests}
 use Rattle.std.proofs.lemmas.Option.{cond_some}
 use Rattle.rules.specs.Prelude.{ℕ, suc, max, Bool, true, false, List, [], refl, sym, ap, subst, ◌∙◌, ltb, eqb, length, get_or, set, take, drop, replicate}
 use Rattle.rules.specs.declared.Answer.{Answer}
-use Rattle.rules.specs.declared.Kind.{Kind}
-use Rattle.rules.specs.declared.Num.{Num}
 use Rattle.rules.specs.Text.Words.{Reading}
 use Rattle.rules.specs.declared.StoreCount.{StoreCount}
 use Rattle.rules.proofs.Laws.Tests.{by_when}
@@ -20,9 +18,9 @@ use Rattle.rules.specs.Answers.{answer, accepted, and_then, passes, outcome, fir
 use Rattle.rules.specs.Text.Words.{value_of, next_of, plain_at, number_at}
 use Rattle.rules.specs.Environments.{no_var}
 use Rattle.rules.specs.Program.{Rows, Var, Prog}
-use Rattle.rules.specs.Machine.Tables.{code_of, block_width}
-use Rattle.rules.specs.Store.Text.{Counted, counted_out, cell_word, arg_word, block_words}
-use Rattle.rules.specs.Store.Fill.{line_after, next_line, row_of, tag_word, cells_start, cell_count, datum_there, cells_there, block_there, arg_names, block_names, store_names, StoreTables, no_store_tables, kept_cells, put_head, fill_cells, local_datum, fill_vals, fill_blocks, fill_store}
+use Rattle.rules.specs.Machine.Tables.{block_width}
+use Rattle.rules.specs.Store.Text.{Counted, counted_out, cell_word, arg_word}
+use Rattle.rules.specs.Store.Fill.{line_after, next_line, row_of, tag_word, cells_start, cell_count, datum_there, cells_there, block_there, arg_names, block_names, store_names, StoreTables, no_store_tables, kept_cells, put_head, fill_cells, fill_vals, fill_blocks, fill_store}
 use Rattle.rules.specs.Store.{StoreOut, kept_store, judged, params_of, read_store, store_fits}
 use Rattle.text.proofs.Laws.{value_most, next_most, plain_reads, number_reads}
 use Rattle.table.proofs.Passes.{left_more, left_none}
@@ -114,12 +112,6 @@ module _ (s : List ℕ) (at : ℕ) where
       number : (value_of (tag_word s at) ≤ 4294967295) × (next_of (tag_word s at) ≤ max (next_of (plain_at s at) + 1) (length s))
       number = (omega (arith, value_most (number_reads s (next_of (plain_at s at) + 1))), omega (arith, next_most (number_reads s (next_of (plain_at s at) + 1))))
 
--- its numbers, as they were read one after the other
-pub line_is : (s : List ℕ) (at : ℕ) {r g w : Reading} {n x y z m : ℕ}
-    → r ≡ plain_at s at → n ≡ next_of r → g ≡ number_at s (n + 1) → w ≡ block_words s at → x ≡ value_of r → y ≡ value_of g → z ≡ value_of w → m ≡ next_of g
-    → ◌≡◌ {A = BlockLine} (record { row = x; tag = y; count = z; start = m + 1 }) (block_line s at)
-line_is s at er en eg ew ex ey ez em = rw (ex, ey, ez, em, eg, en, ew, er)
-
 -- ---- 24
 
 -- each turn: k of n were looked at before it
@@ -136,15 +128,6 @@ module _ (s : List ℕ) (blocks at k n : ℕ) where
     pub cells_go : t ≡ true → {m : ℕ} → m ≡ next_of r → cells_there s blocks (n - k) at ≡ cells_there s blocks (n - (k + 1)) (m + 1)
     unfolding cells_there
     cells_go e f = let g : n - k ≡ suc (n - (k + 1)) = omega arith in rw (g, ← q, ← x, ← d, e, f)
-
-module _ (s : List ℕ) (ρ : Rows) (blocks at : ℕ) {b : BlockLine} (e : b ≡ block_line s at) {t : Bool} (q : t ≡ ltb b.row (length ρ)) where
-  pub block_no : t ≡ false → false ≡ block_there s ρ blocks at
-  unfolding block_there
-  block_no f = rw (← ap (λ (x : BlockLine). x.row) e, ← q, f)
-
-  pub block_yes : t ≡ true → {r : Bool} → r ≡ cells_there s blocks b.count b.start → r ≡ block_there s ρ blocks at
-  unfolding block_there
-  block_yes f g = rw (← ap (λ (x : BlockLine). x.row) e, ← q, f) (g ∙ ap (λ (x : BlockLine). cells_there s blocks x.count x.start) e)
 
 -- each turn: a line, and the one after the last
 module _ (s : List ℕ) (blocks at line end : ℕ) where
@@ -240,13 +223,6 @@ module _ (l : List Var) (v n : ℕ) (en : n ≡ length l) where
     pub params_one : t ≡ false → params_of (drop v l) ≡ suc (params_of (drop (v + 1) l))
     unfolding params_of
     params_one q = rw (left_more l v n en no_var h, ← e, q)
-
-module _ (s : List ℕ) (d : Var) (at : ℕ) {t : Bool} (e : t ≡ d.is_local) where
-  pub val_local : t ≡ true → {k : Kind} {n : Num} {x : ℕ} → k ≡ d.kind → n ≡ d.number → x ≡ code_of (local_datum k n) → ◌≡◌ {A = Taken} (record { code = x; next = at }) (taken s d at)
-  val_local h ek en ex = rw (← e, h, ex, ek, en)
-
-  pub val_param : t ≡ false → {r : Reading} {x m : ℕ} → r ≡ arg_word s (at + 4) → x ≡ value_of r → m ≡ next_line s at → ◌≡◌ {A = Taken} (record { code = x; next = m }) (taken s d at)
-  val_param h er ex em = rw (← e, h, ex, er, em)
 
 pub next_taken : {s : List ℕ} (d : Var) {at : ℕ} {t : Taken} → Inside s at → t ≡ taken s d at → Inside s t.next
 next_taken {s} d {at} h e = rw e (by d.is_local refl)

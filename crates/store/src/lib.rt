@@ -62,7 +62,6 @@ fn next_line(s: &[u8], at: usize) -> usize
     }
 }
 
-#[tactic(auto, using(crate::proofs::Ways::line_is))]
 fn block_line(s: &[u8], at: usize) -> BlockLine
     requires { Near 32768 s.now at }
     ensures { result ≡ block_line s.now at }
@@ -107,7 +106,7 @@ fn cells_there(s: &[u8], blocks: usize, n: usize, at: usize) -> bool
 }
 
 // A block line, by the place after its key.
-#[tactic(auto, using(crate::proofs::Ways::block_no, crate::proofs::Ways::block_yes, crate::proofs::Ways::line_count, crate::proofs::Ways::line_start))]
+#[tactic(auto, using(crate::proofs::Ways::line_count, crate::proofs::Ways::line_start), unfolding(rules::specs::Store::Fill::block_there))]
 fn block_there(s: &[u8], size: &[u32; 6], blocks: usize, at: usize) -> bool
     requires { (blocks ≤ 256) × Near 32768 s.now at }
     ensures { (R : List ℕ) → result ≡ fills.block_there s.now (rows_from size.now R) blocks at }
@@ -240,7 +239,7 @@ fn local_code(k: Kind, n: Num) -> u64
 }
 
 // A local has a number of its own; a parameter takes the argument at `at`.
-#[tactic(auto, using(crate::proofs::Ways::val_local, crate::proofs::Ways::val_param), unfolding(rules::specs::Program::kind_at))]
+#[tactic(auto, unfolding(rules::specs::Program::kind_at))]
 fn val_of(s: &[u8], size: &[u32; 6], vars: &[u32; 96], v: usize, at: usize) -> Taken
     requires { Inside s.now at }
     ensures { result ≡ taken s.now (get_or (vars_from size.now vars.now) v no_var) at }

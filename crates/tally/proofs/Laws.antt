@@ -4,7 +4,7 @@ use native.Mathlib.Omega.{arith}
 use lib.Dec.{T}
 use borrow.Author.Tests.{leb-true, ltb-false, eqb-true, eqb-false}
 use Rattle.std.specs.Prelude.{◌+◌, ◌*◌, ◌<◌, ◌≤◌, ◌||◌, ◌≡◌, Result, Ok, Err}
-use Rattle.rules.specs.Prelude.{ℕ, zero, suc, List, sym, ◌∙◌, subst, ltb, leb, eqb, length}
+use Rattle.rules.specs.Prelude.{ℕ, zero, suc, List, sym, ap, ◌∙◌, subst, ltb, leb, eqb, length}
 use Rattle.rules.specs.Text.Words.{Reading}
 use Rattle.rules.specs.declared.StoreCount.{StoreCount}
 use Rattle.rules.specs.Bytes.{bytes}
@@ -15,6 +15,15 @@ use Rattle.text.proofs.Laws.{found, Reads, right, wrong, value_most, plain_reads
 use Rattle.tally.specs.declared.StoreKey.{StoreKey}
 use Rattle.tally.specs.declared.StoreKey.TheVariants.{Run, Block, Arg}
 use Rattle.tally.specs.Counts.{key_number, Few, lined, tallied}
+
+-- ---- numbers
+
+module _ (s : List ℕ) (at : ℕ) {r : Reading} where
+  pub number_most : r ≡ number_at s at → value_of r ≤ 4294967295
+  number_most e = omega (arith, ap value_of e, value_most (number_reads s at))
+
+  pub plain_most : r ≡ plain_at s at → value_of r ≤ 2147483647
+  plain_most e = omega (arith, ap value_of e, value_most (plain_reads s at))
 
 -- ---- cells
 

@@ -6,33 +6,10 @@ use Rattle.rules.specs.Prelude.{ℕ, suc, Bool, true, false, List, eqb, refl, sy
 use Rattle.rules.specs.Text.Words.{Reading}
 use Rattle.rules.specs.declared.StoreCount.{StoreCount}
 use Rattle.rules.specs.Answers.{answer}
-use Rattle.rules.specs.Text.Words.{byte_at, plain_at, number_at}
-use Rattle.rules.specs.Store.Text.{datum_of, place_of, cell_word, arg_word, cells_on, cells_from, StoreLine, store_line, store_line_at, Counted, store_end, and_store, store_lines, no_store}
+use Rattle.rules.specs.Text.Words.{byte_at}
+use Rattle.rules.specs.Store.Text.{cell_word, cells_on, cells_from, StoreLine, store_line, store_line_at, Counted, store_end, and_store, store_lines}
 use Rattle.tally.specs.declared.Tally.{Tally}
-use Rattle.tally.specs.Counts.{lined, passed, tallied}
-
--- ---- data, by the first byte
-
-module _ (s : List ℕ) (at : ℕ) {b : ℕ} (e : b ≡ byte_at s at) where
-  pub cell_imm : b ≡ 105 → cell_word s at ≡ datum_of 8589934592 (number_at s (at + 1))
-  unfolding cell_word
-  cell_imm h = rw (← e, eq-eqb b 105)
-
-  pub cell_place : (b ≡ 105 → ⊥) → b ≡ 98 → cell_word s at ≡ place_of (plain_at s (at + 1))
-  unfolding cell_word
-  cell_place n h = rw (← e, ne_eqb b 105, eq-eqb b 98)
-
-  pub cell_not : (b ≡ 105 → ⊥) → (b ≡ 98 → ⊥) → cell_word s at ≡ Err at
-  unfolding cell_word
-  cell_not n m = rw (← e, ne_eqb b 105, ne_eqb b 98)
-
-  pub arg_int : b ≡ 99 → arg_word s at ≡ datum_of 4294967296 (number_at s (at + 1))
-  unfolding arg_word
-  arg_int h = rw (← e, eq-eqb b 99)
-
-  pub arg_cell : (b ≡ 99 → ⊥) → arg_word s at ≡ cell_word s at
-  unfolding arg_word
-  arg_cell n = rw (← e, ne_eqb b 99)
+use Rattle.tally.specs.Counts.{lined, passed}
 
 -- ---- cells: a turn reads the cell r, and n of at most `most` were counted before it
 
@@ -93,12 +70,3 @@ module _ (s : List ℕ) (params line at : ℕ) (c : StoreCount) where
 
         pub line_stops : {a : ℕ} {d : StoreCount} → r ≡ Err (a, d) → Err (record { answer = answer a line; count = d }) ≡ passed (store_lines s params (most - line) line at c)
         line_stops q = sym (then_on ∙ rw q)
-
-module _ (params : ℕ) (s : List ℕ) where
-  pub too_long : 16384 < length s → passed (tallied params s) ≡ Err (record { answer = answer 21 0; count = no_store })
-  unfolding tallied
-  too_long h = rw (lt-ltb 16384 (length s))
-
-  pub not_long : length s ≤ 16384 → tallied params s ≡ store_lines s params 290 1 0 no_store
-  unfolding tallied
-  not_long h = rw (le-ltb 16384 (length s))

@@ -52,22 +52,19 @@ fn place_of(r: Reading) -> Reading
 }
 
 // A cell: `iN` or `bK`.
-#[tactic(auto, using(crate::proofs::Ways::cell_imm, crate::proofs::Ways::cell_not, crate::proofs::Ways::cell_place, text::proofs::Laws::inside, text::proofs::Laws::number_reads, text::proofs::Laws::plain_reads, text::proofs::Laws::value_most))]
+#[tactic(auto, using(crate::proofs::Laws::number_most, crate::proofs::Laws::plain_most, text::proofs::Laws::inside), unfolding(rules::specs::Store::Text::cell_word))]
 pub fn cell_word(s: &[u8], at: usize) -> Reading
     ensures { result ≡ texts.cell_word s.now at }
 {
-    let b = byte_at(s, at);
-    if b == 105 {
-        return datum_of(8589934592, number_at(s, at + 1));
+    match byte_at(s, at) {
+        105 => datum_of(8589934592, number_at(s, at + 1)),
+        98 => place_of(plain_at(s, at + 1)),
+        _ => Err(at),
     }
-    if b == 98 {
-        return place_of(plain_at(s, at + 1));
-    }
-    Err(at)
 }
 
 // An argument: `cN`, or as a cell.
-#[tactic(auto, using(crate::proofs::Ways::arg_cell, crate::proofs::Ways::arg_int, text::proofs::Laws::inside, text::proofs::Laws::number_reads, text::proofs::Laws::value_most))]
+#[tactic(auto, using(crate::proofs::Laws::number_most, text::proofs::Laws::inside), unfolding(rules::specs::Store::Text::arg_word))]
 pub fn arg_word(s: &[u8], at: usize) -> Reading
     ensures { result ≡ texts.arg_word s.now at }
 {
@@ -276,7 +273,7 @@ fn lines(s: &[u8], params: usize) -> Result<StoreCount, Tally>
 }
 
 // The counts of a text, or its answer, of 21 to 23, for a program that has so many parameters.
-#[tactic(auto, using(crate::proofs::Ways::not_long, crate::proofs::Ways::too_long))]
+#[tactic(auto, unfolding(crate::specs::Counts::tallied))]
 pub fn tallied(s: &[u8], params: usize) -> Result<StoreCount, Tally>
     ensures { result ≡ passed (tallied params s.now) }
 {
