@@ -1,5 +1,6 @@
 -- A cell outside its block, a place that is moved as a place among the cells of its block, and what an expression gives from what its operands give. Assumes nothing.
 use Rattle.std.specs.Prelude.{Some, None, Option}
+use Rattle.rules.specs.declared.Form.{Form}
 use Rattle.rules.specs.declared.Form.TheVariants as M
 use native.Mathlib.Omega.{arith as lin}
 use native.Mathlib.Decide.{dec_lt}
@@ -11,12 +12,13 @@ use Prim.Native.Nat.{ℕ, ◌<◌, ◌≤◌}
 use lib.Dec.{ltb}
 use lib.IntN.{ℤ, pos, negsuc}
 use lib.ListN.{length}
-use Rattle.rules.specs.declared.Datum.TheVariants.{Place}
+use Rattle.rules.specs.declared.Num.{Num}
+use Rattle.rules.specs.declared.Datum.TheVariants.{Int, Imm, Place}
 use Rattle.rules.specs.Machine.{Given}
 use Rattle.rules.specs.When.{need}
-use Rattle.rules.specs.View.{form_of, tree_of, tree_at}
+use Rattle.rules.specs.View.{tree_of, tree_at}
 use Rattle.rules.specs.Program.{Rows}
-use Rattle.rules.specs.Machine.{Store, cells_in, inside, cell_at, ev_arith, ev_val, ev_int, ev_fetch, moved, ev_step, eval}
+use Rattle.rules.specs.Machine.{Store, cells_in, inside, cell_at, need_int, ev_arith, ev_val, ev_int, ev_fetch, moved, ev_step, eval}
 use Rattle.number.specs.Places.{index_in, index_at, index_out}
 use Rattle.storage.proofs.Laws.{cell_out, block_with}
 use Rattle.program.specs.Nodes.{after_of}
@@ -77,9 +79,22 @@ folds ρ σ δ M.Val a p q x y ex ey = ap (ev_val ρ a) (sym (ex (omega lin)))
 folds ρ σ δ M.Step a p q x y ex ey = ap₂ (ev_step σ) (sym (ex (omega lin))) (sym (ey (omega lin)))
 folds ρ σ δ (M.Calc o) a p q x y ex ey = ap₂ (ev_arith o) (sym (ex (omega lin))) (sym (ey (omega lin)))
 
-pub step_form : (ρ : Rows) (σ : Store) (δ : List Given) (op a : ℕ) (x y : Given) → form_of op ≡ M.Step → ev_step σ x y ≡ form ρ σ δ (form_of op) a x y
-unfolding form
-step_form ρ σ δ op a x y e = rw e
+-- what a node gives, by its form however that was read
+pub by_form : (ρ : Rows) (σ : Store) (δ : List Given) (a : ℕ) (x y g : Given) {p q : Form} → p ≡ q → g ≡ form ρ σ δ p a x y → g ≡ form ρ σ δ q a x y
+by_form ρ σ δ a x y g e h = h ∙ ap (λ (f : Form). form ρ σ δ f a x y) e
+
+-- an operand that is an int, and one that is none
+pub int_there : (x : Given) (n : Num) → Some n ≡ need_int None x (λ a. Some a) → x ≡ Some (Int n)
+int_there None n e = cc
+int_there (Some (Int m)) n e = cc
+int_there (Some (Imm m)) n e = cc
+int_there (Some (Place b o)) n e = cc
+
+pub int_none : (x : Given) (k : Num → Given) → None ≡ need_int None x (λ a. Some a) → None ≡ need_int None x k
+int_none None k e = refl
+int_none (Some (Int m)) k e = cc
+int_none (Some (Imm m)) k e = refl
+int_none (Some (Place b o)) k e = refl
 
 -- what a walk gave is what the tree gives, and the node after it
 module _ (ρ : Rows) (σ : Store) (δ : List Given) (N : List ℕ) (d k : ℕ) (g : Gave) (e : g ≡ gave_at ρ σ δ N d k) where
