@@ -1,11 +1,10 @@
--- The tests of `iftag`, the two expressions of a `put`, and a body line by the number of its kind. Assumes nothing.
+-- The tests of `iftag`, the two expressions of a `put`, and a body line by its kind. Assumes nothing.
 use Rattle.std.specs.Prelude.{Some}
 use Rattle.rules.specs.declared.Way.{Way}
-use Rattle.rules.specs.declared.Way.TheVariants as Ws
 use native.Mathlib.Omega.{arith as lin}
 use borrow.Author.Tests.{lt-ltb, le-ltb, eq-eqb, ne_eqb}
-use mathlib.Core.Path.{◌≡◌, sym, ap, ◌∙◌}
-use mathlib.Core.Bool.{Bool, true, false}
+use mathlib.Core.Path.{◌≡◌, sym}
+use mathlib.Core.Bool.{Bool}
 use mathlib.Core.List.{List}
 use Prim.Native.Nat.{ℕ, ◌<◌, ◌≤◌}
 use lib.IntN.{pos}
@@ -15,10 +14,10 @@ use Rattle.rules.specs.declared.Datum.TheVariants.{Place}
 use Rattle.rules.specs.Machine.{Given}
 use Rattle.rules.specs.declared.Act.{Act}
 use Rattle.rules.specs.declared.Act.TheVariants.{Stuck}
-use Rattle.rules.specs.Numbers.{eq_z, num_code}
-use Rattle.rules.specs.Program.{Prog, Rows, Stmt, bad_s}
+use Rattle.rules.specs.Numbers.{eq_z}
+use Rattle.rules.specs.Program.{Prog, Rows, bad_s}
 use Rattle.rules.specs.View.{tree_of, tree_at, way_of, stmt_of, stmt_from, rows_from, vars_from, body_from, program}
-use Rattle.rules.specs.Machine.{Store, tag_in, ev_var, eval, jump_on, act_set, act_put, act_if, act_ifimm, act_iftag, act_ifint, act_return, act, decide}
+use Rattle.rules.specs.Machine.{Store, tag_in, eval, jump_on, act_put, act_iftag, act, decide}
 use Rattle.rules.specs.Machine.Tables.{store_of, vals_of}
 use Rattle.eval.specs.declared.Gave.{Gave}
 use Rattle.eval.specs.Walk.{gave_at}
@@ -27,7 +26,6 @@ use Rattle.program.specs.declared.Stored.{Stored}
 use Rattle.program.specs.Lines.{stored_at, tables_of}
 use Rattle.program.specs.Nodes.{after_of}
 use Rattle.program.proofs.Laws.{line_view, line_in_lem}
-use Rattle.program.proofs.Walk.{NoneTo, way_rest, with_one_lem, with_two_lem}
 
 -- ---- tags and variables
 
@@ -74,51 +72,8 @@ module _ (Z N R D L B : List ℕ) (S H C W : List ℕ) where
     abbrev line : Act
     line = act P σ δ (stmt_from N B i)
 
-    by_way : (w : Way) → way_of s.kind ≡ w → line ≡ act P σ δ (stmt_of N w s.label s.variable s.word s.node)
-    by_way w q = rw (line_view N B i, sym e, q)
-
-    by_kind : (n : ℕ) → s.kind ≡ n → line ≡ act P σ δ (stmt_of N (way_of n) s.label s.variable s.word s.node)
-    by_kind n q = by_way (way_of n) (ap way_of q)
-
-    pub set_line : s.kind ≡ 1 → line ≡ act_set δ s.variable (given_at s.node)
-    unfolding stmt_of way_of act program
-    set_line q = by_kind 1 q ∙ rw (with_one_lem (Stmt.set_s s.variable) (tree_at N 16 s.node))
-
-    pub put_line_lem : s.kind ≡ 2 → line ≡ act_put σ (num_code s.word) (given_at s.node) (given_at (after_of (tree_at N 16 s.node)))
-    unfolding stmt_of way_of act program
-    put_line_lem q = by_kind 2 q ∙ rw (with_two_lem N (λ x y. Stmt.put_s x (num_code s.word) y) (tree_at N 16 s.node))
-
-    pub goto_line : s.kind ≡ 3 → line ≡ jump_on P s.label true
-    unfolding stmt_of way_of act
-    goto_line q = by_kind 3 q
-
-    pub if_line : s.kind ≡ 4 → line ≡ act_if P s.label (given_at s.node)
-    unfolding stmt_of way_of act program
-    if_line q = by_kind 4 q ∙ rw (with_one_lem (Stmt.if_s s.label) (tree_at N 16 s.node))
-
-    pub ifimm_line : s.kind ≡ 5 → line ≡ act_ifimm P s.label (ev_var δ s.variable)
-    unfolding stmt_of way_of act
-    ifimm_line q = by_kind 5 q
-
-    pub iftag_line : s.kind ≡ 6 → line ≡ act_iftag P σ s.label (num_code s.word) (ev_var δ s.variable)
-    unfolding stmt_of way_of act
-    iftag_line q = by_kind 6 q
-
-    pub ifint_line : s.kind ≡ 7 → line ≡ act_ifint P s.label (num_code s.word) (ev_var δ s.variable)
-    unfolding stmt_of way_of act
-    ifint_line q = by_kind 7 q
-
-    pub return_line : s.kind ≡ 8 → line ≡ act_return (given_at s.node)
-    unfolding stmt_of way_of act program
-    return_line q = by_kind 8 q ∙ rw (with_one_lem Stmt.return_s (tree_at N 16 s.node))
-
-    pub label_line_lem : s.kind ≡ 9 → line ≡ jump_on P s.label false
-    unfolding stmt_of way_of act
-    label_line_lem q = by_kind 9 q
-
-    pub no_line : NoneTo 9 s.kind → line ≡ Stuck
-    unfolding stmt_of act
-    no_line h = by_way Ws.Absent (way_rest s.kind h)
+    pub by_way : (w : Way) → w ≡ way_of s.kind → line ≡ act P σ δ (stmt_of N w s.label s.variable s.word s.node)
+    by_way w q = rw (line_view N B i, sym e, sym q)
 
   -- a place of the body, and one past its lines
   pub line_there : (i n : ℕ) → n ≡ length (body_from Z N B) → i < n → decide P σ δ i ≡ act P σ δ (stmt_from N B i)

@@ -11,7 +11,7 @@ ghost use Rattle.program.specs.Lines.{tables_of};
 ghost use Rattle.program.specs.Nodes.{after_of};
 
 use number::Sign;
-use rules::{Act, Datum, Given, Num};
+use rules::{Act, Datum, Given, Num, Way};
 
 // ---- jumps
 
@@ -20,14 +20,12 @@ use rules::{Act, Datum, Given, Num};
 fn jump_on(size: &[u32; 6], labels: &[u64; 6208], body: &[u32; 2560], l: usize, on: bool) -> Act
     ensures { (N R D : List ℕ) → result ≡ jump_on (program (tables_of size.now N R D labels.now body.now)) l on }
 {
-    if program::label_there(size, labels, body, l) {
-        if on {
-            Act::Jump(program::label_line(size, labels, l))
-        } else {
-            Act::Fall
-        }
-    } else {
+    if !program::label_there(size, labels, body, l) {
         Act::Stuck
+    } else if on {
+        Act::Jump(program::label_line(size, labels, l))
+    } else {
+        Act::Fall
     }
 }
 
@@ -37,12 +35,8 @@ fn act_if(size: &[u32; 6], labels: &[u64; 6208], body: &[u32; 2560], l: usize, x
     ensures { (N R D : List ℕ) → result ≡ act_if (program (tables_of size.now N R D labels.now body.now)) l x }
 {
     match x {
-        None => Act::Stuck,
-        Some(d) => match d {
-            Datum::Int(n) => jump_on(size, labels, body, l, !number::is_zero(n)),
-            Datum::Imm(_) => Act::Stuck,
-            Datum::Place(_, _) => Act::Stuck,
-        },
+        Some(Datum::Int(n)) => jump_on(size, labels, body, l, !number::is_zero(n)),
+        _ => Act::Stuck,
     }
 }
 
@@ -51,12 +45,9 @@ fn act_ifimm(size: &[u32; 6], labels: &[u64; 6208], body: &[u32; 2560], l: usize
     ensures { (N R D : List ℕ) → result ≡ act_ifimm (program (tables_of size.now N R D labels.now body.now)) l x }
 {
     match x {
-        None => Act::Stuck,
-        Some(d) => match d {
-            Datum::Int(_) => Act::Stuck,
-            Datum::Imm(_) => jump_on(size, labels, body, l, true),
-            Datum::Place(_, _) => jump_on(size, labels, body, l, false),
-        },
+        Some(Datum::Imm(_)) => jump_on(size, labels, body, l, true),
+        Some(Datum::Place(_, _)) => jump_on(size, labels, body, l, false),
+        _ => Act::Stuck,
     }
 }
 
@@ -65,41 +56,11 @@ fn act_ifimm(size: &[u32; 6], labels: &[u64; 6208], body: &[u32; 2560], l: usize
 fn is_tag(t: u32, n: Num) -> bool
     ensures { result ≡ eq_z (pos t) n.n }
 {
-    match number::sign_of(n) {
-        Sign::Plus(k) => t == k,
-        Sign::Minus(_) => false,
-    }
+    matches!(number::sign_of(n), Sign::Plus(k) if k == t)
 }
 
-// The tests of `iftag` on the place at offset o of block b, in their order.
-#[tactic(auto, using(crate::proofs::Laws::tag_absent, crate::proofs::Laws::tag_goes, crate::proofs::Laws::tag_inside))]
-fn tag_jump(
-    size: &[u32; 6],
-    labels: &[u64; 6208],
-    body: &[u32; 2560],
-    store: &[u32; 2],
-    heads: &[u32; 768],
-    l: usize,
-    n: Num,
-    b: usize,
-    o: usize,
-) -> Act
-    ensures { (N R D C : List ℕ) → result ≡ act_iftag (program (tables_of size.now N R D labels.now body.now)) (store_of store.now heads.now C) l n (Some (Datum.Place b o)) }
-{
-    let blocks = storage::block_count(store);
-    if o == 0 {
-        if b < blocks {
-            let t = storage::block_tag(store, heads, b);
-            jump_on(size, labels, body, l, is_tag(t, n))
-        } else {
-            Act::Stuck
-        }
-    } else {
-        Act::Stuck
-    }
-}
-
-#[tactic(auto, unfolding(rules::specs::Machine::act_iftag))]
+// The place must be the first of a block that is there.
+#[tactic(auto, using(crate::proofs::Laws::tag_absent, crate::proofs::Laws::tag_goes, crate::proofs::Laws::tag_inside), unfolding(rules::specs::Machine::act_iftag))]
 fn act_iftag(
     size: &[u32; 6],
     labels: &[u64; 6208],
@@ -113,12 +74,11 @@ fn act_iftag(
     ensures { (N R D C : List ℕ) → result ≡ act_iftag (program (tables_of size.now N R D labels.now body.now)) (store_of store.now heads.now C) l n x }
 {
     match x {
-        None => Act::Stuck,
-        Some(d) => match d {
-            Datum::Int(_) => Act::Stuck,
-            Datum::Imm(_) => Act::Stuck,
-            Datum::Place(b, o) => tag_jump(size, labels, body, store, heads, l, n, b, o),
-        },
+        Some(Datum::Place(b, o)) if o == 0 && b < storage::block_count(store) => {
+            let t = storage::block_tag(store, heads, b);
+            jump_on(size, labels, body, l, is_tag(t, n))
+        }
+        _ => Act::Stuck,
     }
 }
 
@@ -134,12 +94,8 @@ fn act_ifint(
     ensures { (N R D : List ℕ) → result ≡ act_ifint (program (tables_of size.now N R D labels.now body.now)) l n x }
 {
     match x {
-        None => Act::Stuck,
-        Some(d) => match d {
-            Datum::Int(_) => Act::Stuck,
-            Datum::Imm(m) => jump_on(size, labels, body, l, number::same(m, n)),
-            Datum::Place(_, _) => Act::Stuck,
-        },
+        Some(Datum::Imm(m)) => jump_on(size, labels, body, l, number::same(m, n)),
+        _ => Act::Stuck,
     }
 }
 
@@ -150,14 +106,8 @@ fn act_set(size: &[u32; 6], v: usize, x: Given) -> Act
     ensures { (D W : List ℕ) → result ≡ act_set (vals_of (length (vars_from size.now D)) W) v x }
 {
     match x {
-        None => Act::Stuck,
-        Some(d) => {
-            if program::var_there(size, v) {
-                Act::SetVar(v, d)
-            } else {
-                Act::Stuck
-            }
-        }
+        Some(d) if program::var_there(size, v) => Act::SetVar(v, d),
+        _ => Act::Stuck,
     }
 }
 
@@ -166,12 +116,8 @@ fn store_at(b: usize, o: usize, y: Given) -> Act
     ensures { result ≡ store_at b o y }
 {
     match y {
-        None => Act::Stuck,
-        Some(d) => match d {
-            Datum::Int(_) => Act::Stuck,
-            Datum::Imm(n) => Act::SetCell(b, o, Datum::Imm(n)),
-            Datum::Place(c, i) => Act::SetCell(b, o, Datum::Place(c, i)),
-        },
+        None | Some(Datum::Int(_)) => Act::Stuck,
+        Some(d) => Act::SetCell(b, o, d),
     }
 }
 
@@ -180,12 +126,8 @@ fn put_to(to: Given, y: Given) -> Act
     ensures { result ≡ need_place Act.Stuck to (λ c i. store_at c i y) }
 {
     match to {
-        None => Act::Stuck,
-        Some(d) => match d {
-            Datum::Int(_) => Act::Stuck,
-            Datum::Imm(_) => Act::Stuck,
-            Datum::Place(c, i) => store_at(c, i, y),
-        },
+        Some(Datum::Place(c, i)) => store_at(c, i, y),
+        _ => Act::Stuck,
     }
 }
 
@@ -194,12 +136,8 @@ fn act_put(store: &[u32; 2], heads: &[u32; 768], m: Num, x: Given, y: Given) -> 
     ensures { (C : List ℕ) → result ≡ act_put (store_of store.now heads.now C) m x y }
 {
     match x {
-        None => Act::Stuck,
-        Some(d) => match d {
-            Datum::Int(_) => Act::Stuck,
-            Datum::Imm(_) => Act::Stuck,
-            Datum::Place(b, o) => put_to(eval::moved(store, heads, b, o, m), y),
-        },
+        Some(Datum::Place(b, o)) => put_to(eval::moved(store, heads, b, o, m), y),
+        _ => Act::Stuck,
     }
 }
 
@@ -227,8 +165,7 @@ fn given(
 ) -> Given
     ensures { (R D : List ℕ) → result ≡ eval (rows_from size.now R) (store_of store.now heads.now cells.now) (vals_of (length (vars_from size.now D)) vals.now) (tree_of (tree_at nodes.now 16 k)) }
 {
-    let f = eval::given_at(size, nodes, store, heads, cells, vals, k);
-    f.given
+    eval::given_at(size, nodes, store, heads, cells, vals, k).given
 }
 
 // A and E of a `put`: E begins at the node after A.
@@ -245,15 +182,13 @@ fn put_line(
 ) -> Act
     ensures { (R D : List ℕ) → result ≡ act_put (store_of store.now heads.now cells.now) m (eval (rows_from size.now R) (store_of store.now heads.now cells.now) (vals_of (length (vars_from size.now D)) vals.now) (tree_of (tree_at nodes.now 16 k))) (eval (rows_from size.now R) (store_of store.now heads.now cells.now) (vals_of (length (vars_from size.now D)) vals.now) (tree_of (tree_at nodes.now 16 (after_of (tree_at nodes.now 16 k))))) }
 {
-    let f = eval::given_at(size, nodes, store, heads, cells, vals, k);
-    let x = f.given;
-    let next = f.next;
-    let y = given(size, nodes, store, heads, cells, vals, next);
-    act_put(store, heads, m, x, y)
+    let to = eval::given_at(size, nodes, store, heads, cells, vals, k);
+    let y = given(size, nodes, store, heads, cells, vals, to.next);
+    act_put(store, heads, m, to.given, y)
 }
 
 // What stands at a place of the body's table, by its kind.
-#[tactic(auto, using(crate::proofs::Laws::goto_line, crate::proofs::Laws::if_line, crate::proofs::Laws::ifimm_line, crate::proofs::Laws::ifint_line, crate::proofs::Laws::iftag_line, crate::proofs::Laws::label_line_lem, crate::proofs::Laws::no_line, crate::proofs::Laws::put_line_lem, crate::proofs::Laws::return_line, crate::proofs::Laws::set_line))]
+#[tactic(auto, using(crate::proofs::Laws::by_way, program::proofs::Walk::with_one_lem, program::proofs::Walk::with_two_lem), unfolding(rules::specs::View::stmt_of, rules::specs::View::program, rules::specs::Machine::act))]
 fn line_act(
     size: &[u32; 6],
     nodes: &[u64; 4096],
@@ -268,28 +203,27 @@ fn line_act(
     ensures { (R D : List ℕ) → result ≡ act (program (tables_of size.now nodes.now R D labels.now body.now)) (store_of store.now heads.now cells.now) (vals_of (length (vars_from size.now D)) vals.now) (stmt_from nodes.now body.now at) }
 {
     let s = program::line_at(body, at);
-    let kind = s.kind;
     let l = s.label as usize;
     let v = s.variable as usize;
     let n = number::number(s.word);
     let k = s.node as usize;
-    match kind {
-        1 => act_set(size, v, given(size, nodes, store, heads, cells, vals, k)),
-        2 => put_line(size, nodes, store, heads, cells, vals, n, k),
-        3 => jump_on(size, labels, body, l, true),
-        4 => {
+    match program::way_of(s.kind) {
+        Way::Set => act_set(size, v, given(size, nodes, store, heads, cells, vals, k)),
+        Way::Put => put_line(size, nodes, store, heads, cells, vals, n, k),
+        Way::Goto => jump_on(size, labels, body, l, true),
+        Way::If => {
             let x = given(size, nodes, store, heads, cells, vals, k);
             act_if(size, labels, body, l, x)
         }
-        5 => act_ifimm(size, labels, body, l, eval::var_given(size, vals, v)),
-        6 => {
+        Way::IfImm => act_ifimm(size, labels, body, l, eval::var_given(size, vals, v)),
+        Way::IfTag => {
             let x = eval::var_given(size, vals, v);
             act_iftag(size, labels, body, store, heads, l, n, x)
         }
-        7 => act_ifint(size, labels, body, l, n, eval::var_given(size, vals, v)),
-        8 => act_return(given(size, nodes, store, heads, cells, vals, k)),
-        9 => jump_on(size, labels, body, l, false),
-        _ => Act::Stuck,
+        Way::IfInt => act_ifint(size, labels, body, l, n, eval::var_given(size, vals, v)),
+        Way::Return => act_return(given(size, nodes, store, heads, cells, vals, k)),
+        Way::Label => jump_on(size, labels, body, l, false),
+        Way::Absent => Act::Stuck,
     }
 }
 
@@ -308,8 +242,7 @@ pub fn decide_at(
 ) -> Act
     ensures { (R D : List ℕ) → result ≡ decide (program (tables_of size.now nodes.now R D labels.now body.now)) (store_of store.now heads.now cells.now) (vals_of (length (vars_from size.now D)) vals.now) at }
 {
-    let n = program::line_count(size);
-    if at < n {
+    if at < program::line_count(size) {
         line_act(size, nodes, labels, body, store, heads, cells, vals, at)
     } else {
         Act::Stuck
