@@ -1,23 +1,17 @@
--- The tests of `iftag`, the two expressions of a `put`, and a body line by its kind. Assumes nothing.
-use Rattle.std.specs.Prelude.{Some}
+-- The two expressions of a `put`, and a body line by its kind. Assumes nothing.
 use Rattle.rules.specs.declared.Way.{Way}
 use native.Mathlib.Omega.{arith as lin}
-use borrow.Author.Tests.{lt-ltb, le-ltb, eq-eqb, ne_eqb}
 use mathlib.Core.Path.{◌≡◌, sym}
-use mathlib.Core.Bool.{Bool}
 use mathlib.Core.List.{List}
 use Prim.Native.Nat.{ℕ, ◌<◌, ◌≤◌}
-use lib.IntN.{pos}
 use lib.ListN.{length, get_or-eq_default}
 use Rattle.rules.specs.declared.Num.{Num}
-use Rattle.rules.specs.declared.Datum.TheVariants.{Place}
 use Rattle.rules.specs.Machine.{Given}
 use Rattle.rules.specs.declared.Act.{Act}
 use Rattle.rules.specs.declared.Act.TheVariants.{Stuck}
-use Rattle.rules.specs.Numbers.{eq_z}
 use Rattle.rules.specs.Program.{Prog, Rows, bad_s}
 use Rattle.rules.specs.View.{tree_of, tree_at, way_of, stmt_of, stmt_from, rows_from, vars_from, body_from, program}
-use Rattle.rules.specs.Machine.{Store, tag_in, eval, jump_on, act_put, act_iftag, act, decide}
+use Rattle.rules.specs.Machine.{Store, eval, act_put, act, decide}
 use Rattle.rules.specs.Machine.Tables.{store_of, vals_of}
 use Rattle.eval.specs.declared.Gave.{Gave}
 use Rattle.eval.specs.Walk.{gave_at}
@@ -26,22 +20,6 @@ use Rattle.program.specs.declared.Stored.{Stored}
 use Rattle.program.specs.Lines.{stored_at, tables_of}
 use Rattle.program.specs.Nodes.{after_of}
 use Rattle.program.proofs.Laws.{line_view, line_in_lem}
-
--- ---- tags and variables
-
--- the tests of `iftag` on a place, in a store of k blocks
-module _ (P : Prog) (s : Store) (l : ℕ) (n : Num) (b o k : ℕ) (e : k ≡ length s) where
-  pub tag_goes : (t : ℕ) (on : Bool) → t ≡ tag_in s b → on ≡ eq_z (pos t) n.n → o ≡ 0 → b < k → jump_on P l on ≡ act_iftag P s l n (Some (Place b o))
-  unfolding act_iftag
-  tag_goes t on et eon z h = let g : b < length s = omega (lin, e, h) in rw (eq-eqb o 0 z, lt-ltb b (length s) g, sym et, eon)
-
-  pub tag_absent : o ≡ 0 → k ≤ b → Stuck ≡ act_iftag P s l n (Some (Place b o))
-  unfolding act_iftag
-  tag_absent z h = let g : length s ≤ b = omega (lin, e, h) in rw (eq-eqb o 0 z, le-ltb b (length s) g)
-
-  pub tag_inside : (o ≡ 0 → ⊥) → Stuck ≡ act_iftag P s l n (Some (Place b o))
-  unfolding act_iftag
-  tag_inside z = rw (ne_eqb o 0 z)
 
 -- ---- the expressions of a `put`
 

@@ -60,7 +60,7 @@ fn is_tag(t: u32, n: Num) -> bool
 }
 
 // The place must be the first of a block that is there.
-#[tactic(auto, using(crate::proofs::Laws::tag_absent, crate::proofs::Laws::tag_goes, crate::proofs::Laws::tag_inside), unfolding(rules::specs::Machine::act_iftag))]
+#[tactic(auto, unfolding(rules::specs::Machine::act_iftag))]
 fn act_iftag(
     size: &[u32; 6],
     labels: &[u64; 6208],
