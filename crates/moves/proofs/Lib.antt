@@ -1,4 +1,3 @@
 -- What the proofs of several functions use.
 pub mod Laws
-pub mod Applied
 pub mod Held

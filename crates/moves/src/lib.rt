@@ -3,9 +3,9 @@
 
 ghost use Rattle.std.specs.Prelude.{◌≡◌, List, ℕ, ◌+◌, ◌<◌};
 ghost use Rattle.rules.specs.declared.Stepped.TheVariants as S;
-ghost use Rattle.moves.specs.Moves.{Words, parts, Moves, Ready, Applies};
+ghost use Rattle.moves.specs.Moves.{parts, Moves, Ready, Applies};
 
-use rules::{Act, Given, Stepped};
+use rules::{Act, Stepped};
 
 // What a step or a run says, with the machine's numbers after it.
 #[derive(Drop)]
@@ -14,6 +14,18 @@ pub struct Moved {
     pub at: usize,
     pub steps: u32,
     pub value: u64,
+}
+
+// The machine's numbers as they are.
+fn still(out: Stepped, at: usize, steps: u32, value: u64) -> Moved
+    ensures { result ≡ record { out = out; at = at; steps = steps; value = value } }
+{
+    Moved {
+        out,
+        at,
+        steps,
+        value,
+    }
 }
 
 // Every step that is taken counts one.
@@ -30,7 +42,7 @@ fn moved_to(at: usize, steps: u32, value: u64) -> Moved
 }
 
 // What a line decides is done here, and nowhere else are the cells or the variables altered.
-#[tactic(auto, using(crate::proofs::Applied::turned, crate::proofs::Applied::stuck, crate::proofs::Applied::fell, crate::proofs::Applied::jumped, crate::proofs::Applied::var_set, crate::proofs::Applied::cell_set, crate::proofs::Applied::given))]
+#[tactic(auto, using(entry::proofs::Again::written), unfolding(rules::specs::Machine::Tables::apply_t))]
 fn apply(
     act: Act,
     cells: &mut [u64; 4352],
@@ -43,12 +55,7 @@ fn apply(
     ensures { (S H : List ℕ) → Applies act (parts S H cells.old vals.old at steps value) result cells.new vals.new }
 {
     match act {
-        Act::Stuck => Moved {
-            out: Stepped::Stuck,
-            at,
-            steps,
-            value,
-        },
+        Act::Stuck => still(Stepped::Stuck, at, steps, value),
         Act::Fall => moved_to(at + 1, steps, value),
         Act::Jump(i) => moved_to(i, steps, value),
         Act::SetVar(v, d) => {
@@ -63,19 +70,8 @@ fn apply(
     }
 }
 
-// A table of 64-bit numbers holds such numbers, whatever else stands in it. Nothing is done: what is learnt stands in the contract.
-fn words(t: &[u64]) -> u32
-    ensures { Words t.now }
-{
-    if t.len() == 0 {
-        0
-    } else {
-        (t[0] / 4294967296) as u32
-    }
-}
-
 // A machine whose budget is used up, or that has returned, stays as it is; any other does what its line decides.
-#[tactic(auto, using(crate::proofs::Held::ready, crate::proofs::Laws::used_up, crate::proofs::Laws::stands, crate::proofs::Laws::acts))]
+#[tactic(auto, unfolding(rules::specs::Machine::Tables::step_within, rules::specs::Machine::Tables::step_t, rules::specs::Machine::Tables::says_within, rules::specs::Machine::says, rules::specs::Machine::Tables::machine))]
 pub fn move_at(
     size: &[u32; 6],
     nodes: &[u64; 4096],
@@ -92,26 +88,11 @@ pub fn move_at(
     ensures { Moves size.now nodes.now labels.now body.now (parts store.now heads.now cells.old vals.old at steps value) result cells.new vals.new }
 {
     if storage::budget(store) <= steps {
-        return Moved {
-            out: Stepped::Spent,
-            at,
-            steps,
-            value,
-        };
+        return still(Stepped::Spent, at, steps, value);
     }
-    let returned = entry::datum_of(value);
-    match returned {
-        Some(_) => Moved {
-            out: Stepped::Returned,
-            at,
-            steps,
-            value,
-        },
-        None => {
-            words(cells);
-            words(vals);
-            let act = act::decide_at(size, nodes, labels, body, store, heads, cells, vals, at);
-            apply(act, cells, vals, at, steps, value)
-        }
+    if entry::datum_of(value).is_some() {
+        return still(Stepped::Returned, at, steps, value);
     }
+    let act = act::decide_at(size, nodes, labels, body, store, heads, cells, vals, at);
+    apply(act, cells, vals, at, steps, value)
 }
