@@ -1,7 +1,7 @@
 -- Runs of tables: a step that does not move ends a run, and one that moves counts one and leaves the rest of it. Assumes nothing.
 use native.Mathlib.Omega.{arith as lin}
 use borrow.Author.Tests.{leb-true, leb-false}
-use Rattle.std.specs.Prelude.{◌+◌, ◌-◌, ◌<◌, ◌≡◌, Some, None}
+use Rattle.std.specs.Prelude.{◌+◌, ◌-◌, ◌*◌, ◌<◌, ◌≡◌, Some, None}
 use Rattle.rules.specs.Prelude.{ℕ, zero, suc, Bool, true, false, List, [], get_or, refl, sym, ap, subst, ◌∙◌}
 use Rattle.rules.specs.declared.Act.{Act}
 use Rattle.rules.specs.declared.Act.TheVariants as D
@@ -103,26 +103,69 @@ module _ (P : Prog) (t : MTables) where
         let more : suc (budget t - (t.steps + 1)) ≡ budget t - t.steps = omega (lin, left) in
         ap (λ (n : ℕ). run_t P n (step_within P t)) j ∙ ap (run_t P (budget t - (t.steps + 1))) same ∙ ap (λ (n : ℕ). run_t P n t) more
 
--- ---- a turn of the loop: what the step at t says, with what is left of the run from t₀
+-- ---- the loop: t₀ is where it began, t where it stands, and o what it was told last
 
-module _ (Z N L B : List ℕ) (t : MTables) (r : Moved) (C W : List ℕ) (m : Moves Z N L B t r C W) where
+-- the run that is left is the run from t₀, and what rests was said at t
+abbrev pub Left : List ℕ → List ℕ → List ℕ → List ℕ → MTables → MTables → Stepped → Type 0
+Left Z N L B t₀ t o = (R D : List ℕ) → (run_within (lines Z N L B R D) t ≡ run_within (lines Z N L B R D) t₀) × (Rests o → o ≡ says_within (lines Z N L B R D) t)
+
+-- a turn that moves counts one, and one that rests is the last
+abbrev pub turns : ℕ → ℕ → Stepped → ℕ
+turns most done T.Stuck = (most - done) * 2
+turns most done T.Moved = (most - done) * 2 + 1
+turns most done T.Returned = (most - done) * 2
+turns most done T.Spent = (most - done) * 2
+
+-- what is so where a step moves, and where it does not, is so
+by_rest : (Q : Stepped → Type 0) (o : Stepped) → (Goes o → Q T.Moved) → (Rests o → Q o) → Q o
+by_rest Q T.Stuck f g = g tt
+by_rest Q T.Moved f g = f tt
+by_rest Q T.Returned f g = g tt
+by_rest Q T.Spent f g = g tt
+
+unmoved : (o : Stepped) → (o ≡ T.Moved → ⊥) → Rests o
+unmoved T.Stuck h = tt
+unmoved T.Moved h = h refl
+unmoved T.Returned h = tt
+unmoved T.Spent h = tt
+
+turns_rest : (most done : ℕ) (o : Stepped) → Rests o → turns most done o ≡ (most - done) * 2
+turns_rest most done T.Stuck h = refl
+turns_rest most done T.Moved h = elim h [ ]
+turns_rest most done T.Returned h = refl
+turns_rest most done T.Spent h = refl
+
+module _ (Z N L B : List ℕ) (t : MTables) where
   abbrev P : List ℕ → List ℕ → Prog
   P R D = lines Z N L B R D
 
-  says_so : (Q : Stepped → Type 0) → Q r.out → (R D : List ℕ) → Q (says_within (P R D) t)
-  says_so Q h R D = subst Q (m R D).0 h
+  -- a turn: the step at t says what r says, and leaves C and W
+  module _ (r : Moved) (C W : List ℕ) (m : Moves Z N L B t r C W) where
+    abbrev t' : MTables
+    t' = parts t.size t.heads C W r.at r.steps r.value
 
-  pub fewer : r.out ≡ T.Moved → get_or t.size 0 0 - r.steps < get_or t.size 0 0 - t.steps
-  fewer e =
-      let h : Goes (says_within (P [] []) t) = says_so Goes (subst Goes (sym e) tt) [] [] in
-      omega (lin, ap (λ (u : MTables). u.steps) (m [] []).1, counts (P [] []) t h, left (P [] []) t h)
+    goes : Goes r.out → (R D : List ℕ) → Goes (says_within (P R D) t)
+    goes h R D = subst Goes (m R D).0 h
 
-  module _ (t₀ : MTables) (inv : (R D : List ℕ) → run_within (P R D) t ≡ run_within (P R D) t₀) where
-    pub onward : r.out ≡ T.Moved → (R D : List ℕ) → run_within (P R D) (parts t.size t.heads C W r.at r.steps r.value) ≡ run_within (P R D) t₀
-    onward e R D = ap (run_within (P R D)) (m R D).1 ∙ goes_on (P R D) t (says_so Goes (subst Goes (sym e) tt) R D) ∙ inv R D
+    rests : Rests r.out → (R D : List ℕ) → t' ≡ t
+    rests h R D = (m R D).1 ∙ step_rests (P R D) t (subst Rests (m R D).0 h)
 
-    pub ended : Rests r.out → (R D : List ℕ) → (r.out ≡ says_within (P R D) (run_within (P R D) t₀)) × (parts t.size t.heads C W r.at r.steps r.value ≡ run_within (P R D) t₀)
-    ended h R D =
-        let k : Rests (says_within (P R D) t) = says_so Rests h R D in
-        let q : t ≡ run_within (P R D) t₀ = sym (run_rests (P R D) t k) ∙ inv R D in
-        ((m R D).0 ∙ ap (says_within (P R D)) q, (m R D).1 ∙ step_rests (P R D) t k ∙ q)
+    pub fewer : (o : Stepped) → o ≡ T.Moved → turns (get_or t.size 0 0) r.steps r.out < turns (get_or t.size 0 0) t.steps o
+    fewer o e = rw e
+        (by_rest (λ x. turns (get_or t.size 0 0) r.steps x < turns (get_or t.size 0 0) t.steps T.Moved) r.out
+        (λ h. omega (lin, ap (λ (u : MTables). u.steps) (m [] []).1, counts (P [] []) t (goes h [] []), left (P [] []) t (goes h [] [])))
+        (λ h. omega (lin, ap (λ (u : MTables). u.steps) (rests h [] []), turns_rest (get_or t.size 0 0) r.steps r.out h)))
+
+    pub onward : (t₀ : MTables) (o : Stepped) → Left Z N L B t₀ t o → Left Z N L B t₀ t' r.out
+    onward t₀ o inv R D = (
+      by_rest (λ _. run_within (P R D) t' ≡ run_within (P R D) t₀) r.out
+          (λ h. ap (run_within (P R D)) (m R D).1 ∙ goes_on (P R D) t (goes h R D) ∙ (inv R D).0)
+          (λ h. ap (run_within (P R D)) (rests h R D) ∙ (inv R D).0),
+      λ h. (m R D).0 ∙ ap (says_within (P R D)) (sym (rests h R D)),
+    )
+
+  pub ended : (t₀ : MTables) (o : Stepped) → Left Z N L B t₀ t o → (o ≡ T.Moved → ⊥) → (R D : List ℕ) → (o ≡ says_within (P R D) (run_within (P R D) t₀)) × (t ≡ run_within (P R D) t₀)
+  ended t₀ o inv h R D =
+      let e : o ≡ says_within (P R D) t = (inv R D).1 (unmoved o h) in
+      let q : t ≡ run_within (P R D) t₀ = sym (run_rests (P R D) t (subst Rests e (unmoved o h))) ∙ (inv R D).0 in
+      (e ∙ ap (says_within (P R D)) q, q)

@@ -100,23 +100,16 @@ pub fn run(
 ) -> Moved
     ensures { Runs size.now nodes.now labels.now body.now (parts store.now heads.now cells.old vals.old at steps value) result cells.new vals.new }
 {
-    let mut i = at;
-    let mut n = steps;
-    let mut v = value;
-    loop {
-        let d = step_once(
-            size, nodes, labels, body, store, heads, cells, vals, i, n, v,
+    let mut last = Moved {
+        out: Stepped::Moved,
+        at,
+        steps,
+        value,
+    };
+    while let Stepped::Moved = last.out {
+        last = step_once(
+            size, nodes, labels, body, store, heads, cells, vals, last.at, last.steps, last.value,
         );
-        let out = d.out;
-        match out {
-            Stepped::Moved => {
-                i = d.at;
-                n = d.steps;
-                v = d.value;
-            }
-            Stepped::Stuck => return d,
-            Stepped::Returned => return d,
-            Stepped::Spent => return d,
-        }
     }
+    last
 }
