@@ -164,8 +164,10 @@ module _ (Z N L B : List ℕ) (t : MTables) where
       λ h. (m R D).0 ∙ ap (says_within (P R D)) (sym (rests h R D)),
     )
 
-  pub ended : (t₀ : MTables) (o : Stepped) → Left Z N L B t₀ t o → (o ≡ T.Moved → ⊥) → (R D : List ℕ) → (o ≡ says_within (P R D) (run_within (P R D) t₀)) × (t ≡ run_within (P R D) t₀)
-  ended t₀ o inv h R D =
+  -- the end: what is left behind the two borrows is what the machine holds
+  pub ended : (C W : List ℕ) → C ≡ t.cells → W ≡ t.vals → (t₀ : MTables) (o : Stepped) → Left Z N L B t₀ t o → (o ≡ T.Moved → ⊥) → (R D : List ℕ)
+      → (o ≡ says_within (P R D) (run_within (P R D) t₀)) × (parts t.size t.heads C W t.at t.steps t.value ≡ run_within (P R D) t₀)
+  ended C W c w t₀ o inv h R D =
       let e : o ≡ says_within (P R D) t = (inv R D).1 (unmoved o h) in
       let q : t ≡ run_within (P R D) t₀ = sym (run_rests (P R D) t (subst Rests e (unmoved o h))) ∙ (inv R D).0 in
-      (e ∙ ap (says_within (P R D)) q, q)
+      (e ∙ ap (says_within (P R D)) q, (λ i. parts t.size t.heads (c i) (w i) t.at t.steps t.value) ∙ q)

@@ -30,58 +30,13 @@ pub fn step<'s, 'a, 'z, 'n, 'l, 'b, 'o, 'h>(
 ) -> Stepped
     ensures { Steps size.now nodes.now labels.now body.now store.now heads.now m.old result m.new }
 {
-    let at = m.at;
-    let steps = m.steps;
-    let value = m.value;
-    let d = moves::move_at(
-        size,
-        nodes,
-        labels,
-        body,
-        store,
-        heads,
-        &mut *m.cells,
-        &mut *m.vals,
-        at,
-        steps,
-        value,
+    let moved = moves::move_at(
+        size, nodes, labels, body, store, heads, m.cells, m.vals, m.at, m.steps, m.value,
     );
-    m.at = d.at;
-    m.steps = d.steps;
-    m.value = d.value;
-    d.out
-}
-
-// From tables to a machine and back: its contract says nothing of a lent machine, so that a loop can call it.
-fn step_once<'z, 'n, 'l, 'b, 'o, 'h, 'a>(
-    size: &'z [u32; 6],
-    nodes: &'n [u64; 4096],
-    labels: &'l [u64; 6208],
-    body: &'b [u32; 2560],
-    store: &'o [u32; 2],
-    heads: &'h [u32; 768],
-    cells: &'a mut [u64; 4352],
-    vals: &'a mut [u64; 32],
-    at: usize,
-    steps: u32,
-    value: u64,
-) -> Moved
-    ensures { Moves size.now nodes.now labels.now body.now (parts store.now heads.now cells.old vals.old at steps value) result cells.new vals.new }
-{
-    let mut m = Machine {
-        cells: cells,
-        vals: vals,
-        at,
-        steps,
-        value,
-    };
-    let out = step(&mut m, size, nodes, labels, body, store, heads);
-    Moved {
-        out,
-        at: m.at,
-        steps: m.steps,
-        value: m.value,
-    }
+    m.at = moved.at;
+    m.steps = moved.steps;
+    m.value = moved.value;
+    moved.out
 }
 
 // Steps until one does not move. That it ends is the budget's doing: each step that moves counts one.
@@ -100,16 +55,21 @@ pub fn run(
 ) -> Moved
     ensures { Runs size.now nodes.now labels.now body.now (parts store.now heads.now cells.old vals.old at steps value) result cells.new vals.new }
 {
-    let mut last = Moved {
-        out: Stepped::Moved,
+    let mut m = Machine {
+        cells,
+        vals,
         at,
         steps,
         value,
     };
-    while let Stepped::Moved = last.out {
-        last = step_once(
-            size, nodes, labels, body, store, heads, cells, vals, last.at, last.steps, last.value,
-        );
+    let mut out = Stepped::Moved;
+    while let Stepped::Moved = out {
+        out = step(&mut m, size, nodes, labels, body, store, heads);
     }
-    last
+    Moved {
+        out,
+        at: m.at,
+        steps: m.steps,
+        value: m.value,
+    }
 }
