@@ -195,7 +195,10 @@ fn walk(
     }
     let node = program::form_of(program::operation(nodes, at));
     match node {
-        Form::Absent | Form::Lit | Form::Var => gives(leaf_at(size, nodes, vals, at), at + 1),
+        Form::Absent | Form::Lit | Form::Var => {
+            let a = program::argument(nodes, at);
+            gives(leaf(size, vals, node, a), at + 1)
+        }
         Form::Fetch | Form::Int | Form::Val => {
             let x = operand(size, nodes, vals, depth - 1, at + 1, store, heads, cells);
             let a = program::argument(nodes, at);
