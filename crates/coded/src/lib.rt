@@ -22,7 +22,7 @@ pub fn entry_in(codes: &[u64; 96], v: usize) -> Entry
 }
 
 // The environment of `count` variables.
-#[tactic(auto, using(program::proofs::Places::entered_all, program::proofs::Places::entered_end, program::proofs::Places::entered_step, crate::proofs::Laws::entry_of_lem), unfolding(crate::specs::Coded::env_of))]
+#[tactic(auto)]
 pub fn env_of(codes: &[u64; 96], count: usize) -> Env
     ensures { result ≡ env_of codes.now count }
 {
@@ -32,30 +32,21 @@ pub fn env_of(codes: &[u64; 96], count: usize) -> Env
         tag: Tag::Unknown,
     };
     let mut entries = [blank; 32];
-    let mut v = 0;
-    while v < 32 {
-        let e = entry_in(codes, v);
-        entries[v] = e;
-        v += 1;
+    for v in 0..32 {
+        entries[v] = entry_in(codes, v);
     }
-    Env {
-        entries: entries,
-        count: count,
-    }
+    Env { entries, count }
 }
 
 // Variable v takes an entry. A variable past 32 has none.
-#[tactic(auto, using(table::proofs::Laws::clamped, crate::proofs::Laws::put_past, crate::proofs::Laws::env_put, crate::proofs::Small::small), unfolding(crate::specs::Coded::put_codes))]
+#[tactic(auto, unfolding(crate::specs::Coded::put_codes))]
 pub fn put_entry(codes: &mut [u64; 96], v: usize, e: Entry)
     ensures codes_after { codes.new ≡ put_codes codes.old v e }
     ensures by_index { (n : ℕ) → env_of codes.new n ≡ with_entry (env_of codes.old n) v e }
 {
     let c = entry::codes_of(e);
-    let b = c.boxed;
-    let i = c.offset;
-    let t = c.tag;
-    let k = table::least(v, 32) * 3;
-    table::put64(codes, k, b);
-    table::put64(codes, k + 1, i);
-    table::put64(codes, k + 2, t);
+    let k = v.min(32) * 3;
+    table::put64(codes, k, c.boxed);
+    table::put64(codes, k + 1, c.offset);
+    table::put64(codes, k + 2, c.tag);
 }
