@@ -22,7 +22,6 @@ pub fn entry_in(codes: &[u64; 96], v: usize) -> Entry
 }
 
 // The environment of `count` variables.
-#[tactic(auto)]
 pub fn env_of(codes: &[u64; 96], count: usize) -> Env
     ensures { result ≡ env_of codes.now count }
 {

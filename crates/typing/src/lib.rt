@@ -51,26 +51,9 @@ pub fn var_judged(size: &[u32; 6], vars: &[u32; 96], env: Env, v: usize) -> Judg
 fn arith_tag(op: Op, a: Tag, b: Tag) -> Tag
     ensures { result ≡ arith_tag op a b }
 {
-    match a {
-        Tag::Unknown => Tag::Unknown,
-        Tag::Known(n) => match b {
-            Tag::Unknown => Tag::Unknown,
-            Tag::Known(m) => Tag::Known(number::arith(op, n, m)),
-        },
-    }
-}
-
-fn arith_kinds(op: Op, k: Kind, e: Entry, l: Kind, d: Entry) -> Judged
-    ensures { result ≡ arith_kinds op k e l d }
-{
-    let a = e.tag;
-    let b = d.tag;
-    match k {
-        Kind::Value(_) => Err(6),
-        Kind::Cint => match l {
-            Kind::Value(_) => Err(6),
-            Kind::Cint => Ok((Kind::Cint, entry::int_entry(arith_tag(op, a, b)))),
-        },
+    match (a, b) {
+        (Tag::Known(n), Tag::Known(m)) => Tag::Known(number::arith(op, n, m)),
+        _ => Tag::Unknown,
     }
 }
 
@@ -78,12 +61,11 @@ fn arith_kinds(op: Op, k: Kind, e: Entry, l: Kind, d: Entry) -> Judged
 fn ty_arith(op: Op, x: Judged, y: Judged) -> Judged
     ensures { result ≡ ty_arith op x y }
 {
-    match x {
-        Err(n) => Err(n),
-        Ok((k, e)) => match y {
-            Err(n) => Err(n),
-            Ok((l, d)) => arith_kinds(op, k, e, l, d),
-        },
+    let (k, e) = x?;
+    let (l, d) = y?;
+    match (k, l) {
+        (Kind::Cint, Kind::Cint) => Ok((Kind::Cint, entry::int_entry(arith_tag(op, e.tag, d.tag)))),
+        _ => Err(6),
     }
 }
 
@@ -94,10 +76,7 @@ fn suits_tag(psi: Psi, t: Tag) -> bool
 {
     match t {
         Tag::Known(n) => number::suits(psi, n),
-        Tag::Unknown => match psi {
-            Psi::Inf => true,
-            Psi::Upto(_) => false,
-        },
+        Tag::Unknown => matches!(psi, Psi::Inf),
     }
 }
 
@@ -115,16 +94,10 @@ fn val_of(psi: Psi, r: usize, t: Tag) -> Judged
 fn ty_val(size: &[u32; 6], rows: &[u32; 17536], r: usize, x: Judged) -> Judged
     ensures { result ≡ ty_val (rows_from size.now rows.now) r x }
 {
-    match x {
-        Err(n) => Err(n),
-        Ok((k, e)) => match k {
-            Kind::Value(_) => Err(6),
-            Kind::Cint => {
-                let t = e.tag;
-                val_of(program::psi_of(size, rows, r), r, t)
-            }
-        },
-    }
+    let (Kind::Cint, e) = x? else {
+        return Err(6);
+    };
+    val_of(program::psi_of(size, rows, r), r, e.tag)
 }
 
 fn is_immediate(b: Boxed, p: usize) -> bool
@@ -140,31 +113,23 @@ fn is_immediate(b: Boxed, p: usize) -> bool
 fn int_of(p: usize, e: Entry) -> Judged
     ensures { result ≡ int_of p e }
 {
-    let b = e.boxed;
-    let i = e.offset;
-    let t = e.tag;
-    if is_immediate(b, p) {
-        if entry::zero_offset(i) {
-            Ok((Kind::Cint, entry::int_entry(t)))
-        } else {
-            Err(10)
-        }
-    } else {
-        Err(7)
+    if !is_immediate(e.boxed, p) {
+        return Err(7);
     }
+    if !entry::zero_offset(e.offset) {
+        return Err(10);
+    }
+    Ok((Kind::Cint, entry::int_entry(e.tag)))
 }
 
 #[tactic(auto, unfolding(rules::specs::Typing::ty_int))]
 fn ty_int(size: &[u32; 6], rows: &[u32; 17536], x: Judged) -> Judged
     ensures { result ≡ ty_int (rows_from size.now rows.now) x }
 {
-    match x {
-        Err(n) => Err(n),
-        Ok((k, e)) => match k {
-            Kind::Cint => Err(6),
-            Kind::Value(r) => int_of(program::prods_of(size, rows, r), e),
-        },
-    }
+    let (Kind::Value(r), e) = x? else {
+        return Err(6);
+    };
+    int_of(program::prods_of(size, rows, r), e)
 }
 
 // ---- addresses
@@ -173,40 +138,31 @@ fn ty_int(size: &[u32; 6], rows: &[u32; 17536], x: Judged) -> Judged
 fn is_lone(psi: Psi, p: usize) -> bool
     ensures { result ≡ lone psi p }
 {
-    match psi {
-        Psi::Inf => false,
-        Psi::Upto(n) => { if n == 0 { p == 1 } else { false } }
-    }
-}
-
-// Where o plus m lands among n, over whole numbers. Here alone an amount is added to an offset.
-fn moved(o: Num, m: Num, n: usize) -> Option<usize>
-    ensures { result ≡ index_in (o.n +ℤ m.n) n }
-{
-    number::sum_in(o, m, n)
+    matches!(psi, Psi::Upto(0)) && p == 1
 }
 
 #[tactic(auto, using(number::specs::Places::index_at, number::specs::Places::index_out))]
 fn addr_at(size: &[u32; 6], rows: &[u32; 17536], r: usize, o: Num, t: Num, m: Num) -> Addr
     ensures { result ≡ addr_at (rows_from size.now rows.now) r o t m }
 {
-    match number::index_in(t, program::prods_of(size, rows, r)) {
-        None => Err(8),
-        Some(tag) => match moved(o, m, program::fields_of(size, rows, r, tag)) {
-            None => Err(8),
-            Some(k) => Ok((tag, k)),
-        },
-    }
+    let Some(tag) = number::index_in(t, program::prods_of(size, rows, r)) else {
+        return Err(8);
+    };
+    // Over whole numbers. Here alone an amount is added to an offset.
+    let Some(k) = number::sum_in(o, m, program::fields_of(size, rows, r, tag)) else {
+        return Err(8);
+    };
+    Ok((tag, k))
 }
 
 // The spot is found: then the amount must be known.
 fn spot_addr(size: &[u32; 6], rows: &[u32; 17536], r: usize, o: Num, t: Num, m: Tag) -> Addr
     ensures { result ≡ addr_spot (rows_from size.now rows.now) r (spot o t) m }
 {
-    match m {
-        Tag::Unknown => Err(7),
-        Tag::Known(n) => addr_at(size, rows, r, o, t, n),
-    }
+    let Tag::Known(n) = m else {
+        return Err(7);
+    };
+    addr_at(size, rows, r, o, t, n)
 }
 
 // B is `box`; whether the row is a lone one plays no part.
@@ -221,13 +177,10 @@ fn block_addr(
 ) -> Addr
     ensures { result ≡ addr_spot (rows_from size.now rows.now) r (spot_of (Boxed.Block) o t only) m }
 {
-    match o {
-        Offset::Unknown => Err(7),
-        Offset::Known(n) => match t {
-            Tag::Unknown => Err(7),
-            Tag::Known(k) => spot_addr(size, rows, r, n, k, m),
-        },
-    }
+    let (Offset::Known(n), Tag::Known(k)) = (o, t) else {
+        return Err(7);
+    };
+    spot_addr(size, rows, r, n, k, m)
 }
 
 // B is `any`.
@@ -242,19 +195,10 @@ fn either_addr(
 ) -> Addr
     ensures { result ≡ addr_spot (rows_from size.now rows.now) r (spot_of (Boxed.Either) o t only) m }
 {
-    match t {
-        Tag::Known(_) => Err(7),
-        Tag::Unknown => {
-            if entry::zero_offset(o) {
-                if only {
-                    spot_addr(size, rows, r, Num { n: 0 }, Num { n: 0 }, m)
-                } else {
-                    Err(7)
-                }
-            } else {
-                Err(7)
-            }
-        }
+    if matches!(t, Tag::Unknown) && entry::zero_offset(o) && only {
+        spot_addr(size, rows, r, Num { n: 0 }, Num { n: 0 }, m)
+    } else {
+        Err(7)
     }
 }
 
@@ -262,48 +206,28 @@ fn either_addr(
 pub fn address_of(size: &[u32; 6], rows: &[u32; 17536], r: usize, e: Entry, m: Tag) -> Addr
     ensures { result ≡ address_of (rows_from size.now rows.now) r e m }
 {
-    let b = e.boxed;
-    let o = e.offset;
-    let t = e.tag;
     let only = is_lone(
         program::psi_of(size, rows, r),
         program::prods_of(size, rows, r),
     );
-    match b {
-        Boxed::Either => either_addr(size, rows, r, only, o, t, m),
-        Boxed::Block => block_addr(size, rows, r, only, o, t, m),
+    match e.boxed {
+        Boxed::Either => either_addr(size, rows, r, only, e.offset, e.tag, m),
+        Boxed::Block => block_addr(size, rows, r, only, e.offset, e.tag, m),
         Boxed::Imm => Err(7),
     }
 }
 
 // ---- `fetch` and `step`
 
-fn fetch_to(size: &[u32; 6], rows: &[u32; 17536], r: usize, a: Addr) -> Judged
-    ensures { result ≡ fetched (rows_from size.now rows.now) r a }
-{
-    match a {
-        Err(n) => Err(n),
-        Ok((t, o)) => Ok((Kind::Value(program::field_of(size, rows, r, t, o)),
-            Entry::LOOSEST)),
-    }
-}
-
 #[tactic(auto, unfolding(rules::specs::Typing::ty_fetch))]
 fn ty_fetch(size: &[u32; 6], rows: &[u32; 17536], x: Judged) -> Judged
     ensures { result ≡ ty_fetch (rows_from size.now rows.now) x }
 {
-    match x {
-        Err(n) => Err(n),
-        Ok((k, e)) => match k {
-            Kind::Cint => Err(6),
-            Kind::Value(r) => fetch_to(
-                size,
-                rows,
-                r,
-                address_of(size, rows, r, e, Tag::Known(Num { n: 0 })),
-            ),
-        },
-    }
+    let (Kind::Value(r), e) = x? else {
+        return Err(6);
+    };
+    let (t, o) = address_of(size, rows, r, e, Tag::Known(Num { n: 0 }))?;
+    Ok((Kind::Value(program::field_of(size, rows, r, t, o)), Entry::LOOSEST))
 }
 
 // `box` at offset o of a block with tag t.
@@ -318,40 +242,17 @@ fn block_entry(t: usize, o: usize) -> Entry
     }
 }
 
-#[tactic(auto, using(crate::proofs::Laws::near))]
-fn step_to(size: &[u32; 6], rows: &[u32; 17536], r: usize, e: Entry, m: Tag) -> Judged
-    ensures { result ≡ stepped r (address_of (rows_from size.now rows.now) r e m) }
-{
-    match address_of(size, rows, r, e, m) {
-        Err(n) => Err(n),
-        Ok((t, o)) => Ok((Kind::Value(r), block_entry(t, o))),
-    }
-}
-
-fn step_kinds(size: &[u32; 6], rows: &[u32; 17536], k: Kind, e: Entry, l: Kind, d: Entry) -> Judged
-    ensures { result ≡ step_kinds (rows_from size.now rows.now) k e l d }
-{
-    let m = d.tag;
-    match k {
-        Kind::Cint => Err(6),
-        Kind::Value(r) => match l {
-            Kind::Value(_) => Err(6),
-            Kind::Cint => step_to(size, rows, r, e, m),
-        },
-    }
-}
-
-#[tactic(auto, unfolding(rules::specs::Typing::ty_step))]
+#[tactic(auto, using(crate::proofs::Laws::near), unfolding(rules::specs::Typing::ty_step))]
 fn ty_step(size: &[u32; 6], rows: &[u32; 17536], x: Judged, y: Judged) -> Judged
     ensures { result ≡ ty_step (rows_from size.now rows.now) x y }
 {
-    match x {
-        Err(n) => Err(n),
-        Ok((k, e)) => match y {
-            Err(n) => Err(n),
-            Ok((l, d)) => step_kinds(size, rows, k, e, l, d),
-        },
-    }
+    let (k, e) = x?;
+    let (l, d) = y?;
+    let (Kind::Value(r), Kind::Cint) = (k, l) else {
+        return Err(6);
+    };
+    let (t, o) = address_of(size, rows, r, e, d.tag)?;
+    Ok((Kind::Value(r), block_entry(t, o)))
 }
 
 // ---- the walk
@@ -395,15 +296,10 @@ fn one_operand(size: &[u32; 6], rows: &[u32; 17536], op: u32, a: u32, x: Judged)
 fn tag_only(x: Judged) -> Judged
     ensures { result ≡ tag_only x }
 {
-    match x {
-        Err(n) => Err(n),
-        Ok((k, e)) => {
-            let t = e.tag;
-            match k {
-                Kind::Value(_) => Ok((Kind::Value(0), entry::int_entry(t))),
-                Kind::Cint => Ok((Kind::Cint, entry::int_entry(t))),
-            }
-        }
+    let (k, e) = x?;
+    match k {
+        Kind::Value(_) => Ok((Kind::Value(0), entry::int_entry(e.tag))),
+        Kind::Cint => Ok((Kind::Cint, entry::int_entry(e.tag))),
     }
 }
 
