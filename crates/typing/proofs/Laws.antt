@@ -1,7 +1,9 @@
 -- An address that is found in viewed rows is small; and an expression's judgement from those of its operands. Assumes nothing.
 use Rattle.std.specs.Prelude.{Ok, Err}
+use Rattle.rules.specs.declared.Form.{Form}
 use Rattle.rules.specs.declared.Form.TheVariants as M
-use mathlib.Core.Path.{◌≡◌, refl, sym, ap, ap₂, subst}
+use Rattle.rules.specs.declared.Op.{Op}
+use mathlib.Core.Path.{◌≡◌, refl, sym, ap, ap₂, subst, ◌∙◌}
 use mathlib.Core.List.{List}
 use Prim.Native.Nat.{ℕ, ◌<◌}
 use native.Mathlib.Omega.{arith as lin}
@@ -18,14 +20,14 @@ use Rattle.rules.specs.Typing.{Judged}
 use Rattle.rules.specs.When.{need}
 use Rattle.rules.specs.Numbers.{among, nat_of}
 use Rattle.rules.specs.Program.{Rows, Var, psi_of, prods_of, fields_of}
-use Rattle.rules.specs.View.{rows_from, form_of, tree_of, tree_at}
+use Rattle.rules.specs.View.{rows_from, tree_of, tree_at}
 use Rattle.rules.specs.Typing.{Spot, nowhere, spot, spot_of, lone, addr_at, addr_spot, address_of, ty_arith, ty_val, ty_int, ty_fetch, ty_step, type}
 use Rattle.rules.proofs.Laws.Tests.{held, by_need}
 use Rattle.program.specs.Nodes.{after_of}
 use Rattle.program.proofs.Laws.{prods_small, fields_small}
 use Rattle.program.proofs.Walk.{Folds}
 use Rattle.typing.specs.declared.Found.{Found}
-use Rattle.typing.specs.Walk.{form, found_at}
+use Rattle.typing.specs.Walk.{tag_only, arith_tags, form, found_at}
 
 -- ---- addresses
 
@@ -67,9 +69,18 @@ folds ρ D Γ M.Val a p q x y ex ey = ap (ty_val ρ a) (sym (ex (omega lin)))
 folds ρ D Γ M.Step a p q x y ex ey = ap₂ (ty_step ρ) (sym (ex (omega lin))) (sym (ey (omega lin)))
 folds ρ D Γ (M.Calc o) a p q x y ex ey = ap₂ (ty_arith o) (sym (ex (omega lin))) (sym (ey (omega lin)))
 
-pub step_form : (ρ : Rows) (D : List Var) (Γ : Env) (op a : ℕ) (x y : Judged) → form_of op ≡ M.Step → ty_step ρ x y ≡ form ρ D Γ (form_of op) a x y
-unfolding form
-step_form ρ D Γ op a x y e = rw e
+-- a node of a form that stands in the table: what its judgement is, is told of the form
+module _ (ρ : Rows) (D : List Var) (Γ : Env) {f : Form} (a : ℕ) (x y : Judged) {j : Judged} where
+  pub of_form : {w : Form} → w ≡ f → j ≡ form ρ D Γ w a x y → j ≡ form ρ D Γ f a x y
+  of_form e q = q ∙ ap (λ (w : Form). form ρ D Γ w a x y) e
+
+  pub of_step : M.Step ≡ f → j ≡ ty_step ρ x y → j ≡ form ρ D Γ f a x y
+  unfolding form
+  of_step e q = of_form e q
+
+  pub of_calc : {o : Op} {t : Judged} → M.Calc o ≡ f → t ≡ tag_only x → j ≡ ty_arith o t y → j ≡ form ρ D Γ f a x y
+  unfolding form
+  of_calc {o} e p q = of_form e (q ∙ ap (λ (t : Judged). ty_arith o t y) p ∙ arith_tags o x y)
 
 -- what a walk gave is the judgement of the tree, and the node after it
 module _ (ρ : Rows) (D : List Var) (Γ : Env) (N : List ℕ) (d k : ℕ) (f : Found) (e : f ≡ found_at ρ D Γ N d k) where

@@ -13,7 +13,7 @@ ghost use Rattle.coded.specs.Coded.{env_of};
 ghost use Rattle.typing.specs.Walk.{tag_only, form, found, found_at};
 ghost use Rattle.rules.specs.declared.Env.{Env};
 
-use rules::{Addr, Boxed, Entry, Env, Judged, Kind, Limits, Num, Offset, Op, Psi, Tag};
+use rules::{Addr, Boxed, Entry, Env, Form, Judged, Kind, Limits, Num, Offset, Op, Psi, Tag};
 
 // What a node's expression is judged as, and the node after it.
 #[derive(Drop)]
@@ -40,8 +40,7 @@ fn var_coded(size: &[u32; 6], vars: &[u32; 96], codes: &[u64; 96], count: usize,
 pub fn var_judged(size: &[u32; 6], vars: &[u32; 96], env: Env, v: usize) -> Judged
     ensures { result ≡ ty_var (vars_from size.now vars.now) env v }
 {
-    let n = env.count;
-    if v < n {
+    if v < env.count {
         Ok((program::kind_of(size, vars, v), entry::entry_at(env, v)))
     } else {
         Err(4)
@@ -227,7 +226,10 @@ fn ty_fetch(size: &[u32; 6], rows: &[u32; 17536], x: Judged) -> Judged
         return Err(6);
     };
     let (t, o) = address_of(size, rows, r, e, Tag::Known(Num { n: 0 }))?;
-    Ok((Kind::Value(program::field_of(size, rows, r, t, o)), Entry::LOOSEST))
+    Ok((
+        Kind::Value(program::field_of(size, rows, r, t, o)),
+        Entry::LOOSEST,
+    ))
 }
 
 // `box` at offset o of a block with tag t.
@@ -259,35 +261,35 @@ fn ty_step(size: &[u32; 6], rows: &[u32; 17536], x: Judged, y: Judged) -> Judged
 
 // The forms by how many operands they have. Those with operands are judged by functions that the walk alone calls, so that no judgement is copied on its way out.
 
-// A number or a variable; no other operation that has no operands is anything (4).
-#[tactic(auto, using(program::proofs::Walk::leaf_rest), unfolding(rules::specs::View::form_of, crate::specs::Walk::form))]
+// A number or a variable; no other form that has no operands is anything (4).
+#[tactic(auto, unfolding(crate::specs::Walk::form))]
 fn leaf(
     size: &[u32; 6],
     vars: &[u32; 96],
     codes: &[u64; 96],
     count: usize,
-    op: u32,
+    what: Form,
     a: u32,
 ) -> Judged
-    requires { arity (form_of op) ≡ 0 }
-    ensures { (ρ : Rows) → result ≡ form ρ (vars_from size.now vars.now) (env_of codes.now count) (form_of op) a (Err 4) (Err 4) }
+    requires { arity what ≡ 0 }
+    ensures { (ρ : Rows) → result ≡ form ρ (vars_from size.now vars.now) (env_of codes.now count) what a (Err 4) (Err 4) }
 {
-    match op {
-        1 => Ok((Kind::Cint, entry::int_entry(Tag::Known(number::number(a))))),
-        2 => var_coded(size, vars, codes, count, a as usize),
+    match what {
+        Form::Lit => Ok((Kind::Cint, entry::int_entry(Tag::Known(number::number(a))))),
+        Form::Var => var_coded(size, vars, codes, count, a as usize),
         _ => Err(4),
     }
 }
 
-#[tactic(auto, using(program::proofs::Walk::one_rest), unfolding(rules::specs::View::form_of, crate::specs::Walk::form))]
-fn one_operand(size: &[u32; 6], rows: &[u32; 17536], op: u32, a: u32, x: Judged) -> Judged
-    requires { arity (form_of op) ≡ 1 }
-    ensures { (D : List Var) (Γ : Env) → result ≡ form (rows_from size.now rows.now) D Γ (form_of op) a x (Err 4) }
+#[tactic(auto, unfolding(crate::specs::Walk::form))]
+fn one_operand(size: &[u32; 6], rows: &[u32; 17536], what: Form, a: u32, x: Judged) -> Judged
+    requires { arity what ≡ 1 }
+    ensures { (D : List Var) (Γ : Env) → result ≡ form (rows_from size.now rows.now) D Γ what a x (Err 4) }
 {
-    match op {
-        3 => ty_fetch(size, rows, x),
-        4 => ty_int(size, rows, x),
-        5 => ty_val(size, rows, a as usize, x),
+    match what {
+        Form::Fetch => ty_fetch(size, rows, x),
+        Form::Int => ty_int(size, rows, x),
+        Form::Val => ty_val(size, rows, a as usize, x),
         _ => Err(4),
     }
 }
@@ -303,26 +305,10 @@ fn tag_only(x: Judged) -> Judged
     }
 }
 
-// Arithmetic, whose operations are those past `step`; of the first operand the tag alone is given.
-#[tactic(auto, using(program::proofs::Walk::two_rest, program::proofs::Walk::past_six, crate::specs::Walk::arith_tags), unfolding(rules::specs::View::form_of, crate::specs::Walk::form))]
-fn two_ints(op: u32, x: Judged, y: Judged) -> Judged
-    requires { (6 < op) × (arity (form_of op) ≡ 0 → ⊥) }
-    ensures { (ρ : Rows) (D : List Var) (Γ : Env) (a : ℕ) (v : Judged) → x ≡ tag_only v → result ≡ form ρ D Γ (form_of op) a v y }
+fn gives(judged: Judged, next: usize) -> Found
+    ensures { result ≡ found judged next }
 {
-    match op {
-        7 => ty_arith(Op::Add, x, y),
-        8 => ty_arith(Op::Sub, x, y),
-        9 => ty_arith(Op::Mul, x, y),
-        10 => ty_arith(Op::Eq, x, y),
-        11 => ty_arith(Op::Lt, x, y),
-        _ => Err(4),
-    }
-}
-
-fn gives(j: Judged, n: usize) -> Found
-    ensures { result ≡ found j n }
-{
-    Found { judged: j, next: n }
+    Found { judged, next }
 }
 
 // What a node without operands is judged as.
@@ -337,9 +323,8 @@ fn leaf_at(
     requires { arity (form_of (get_or nodes.now at 0 / 4294967296)) ≡ 0 }
     ensures { (ρ : Rows) → result ≡ form ρ (vars_from size.now vars.now) (env_of codes.now count) (form_of (get_or nodes.now at 0 / 4294967296)) (get_or nodes.now at 0 % 4294967296) (Err 4) (Err 4) }
 {
-    let op = program::operation(nodes, at);
-    let a = program::argument(nodes, at);
-    leaf(size, vars, codes, count, op, a)
+    let what = program::form_of(program::operation(nodes, at));
+    leaf(size, vars, codes, count, what, program::argument(nodes, at))
 }
 
 // What an operand is judged as. Most operands are numbers and variables: these are judged in place, without a call that goes deeper.
@@ -380,29 +365,27 @@ fn walk(
     if !program::is_within(depth, at) {
         return gives(Err(4), at);
     }
-    let op = program::operation(nodes, at);
-    let n = program::operands(op);
-    if n == 0 {
-        return gives(leaf_at(size, vars, nodes, codes, count, at), at + 1);
+    let what = program::form_of(program::operation(nodes, at));
+    if matches!(what, Form::Absent | Form::Lit | Form::Var) {
+        let a = program::argument(nodes, at);
+        return gives(leaf(size, vars, codes, count, what, a), at + 1);
     }
     let x = operand(size, rows, vars, nodes, codes, count, depth - 1, at + 1);
-    let v = x.judged;
-    let second = x.next;
-    if 6 < op {
-        let t = tag_only(v);
-        let y = operand(size, rows, vars, nodes, codes, count, depth - 1, second);
-        let u = y.judged;
-        let after = y.next;
-        return gives(two_ints(op, t, u), after);
+    match what {
+        Form::Calc(op) => {
+            let t = tag_only(x.judged);
+            let y = operand(size, rows, vars, nodes, codes, count, depth - 1, x.next);
+            gives(ty_arith(op, t, y.judged), y.next)
+        }
+        Form::Step => {
+            let y = operand(size, rows, vars, nodes, codes, count, depth - 1, x.next);
+            gives(ty_step(size, rows, x.judged, y.judged), y.next)
+        }
+        _ => {
+            let a = program::argument(nodes, at);
+            gives(one_operand(size, rows, what, a, x.judged), x.next)
+        }
     }
-    if n == 1 {
-        let a = program::argument(nodes, at);
-        return gives(one_operand(size, rows, op, a, v), second);
-    }
-    let y = operand(size, rows, vars, nodes, codes, count, depth - 1, second);
-    let u = y.judged;
-    let after = y.next;
-    gives(ty_step(size, rows, v, u), after)
 }
 
 // What the expression at a node is judged as, in the environment that the codes stand for, and the node after it.
