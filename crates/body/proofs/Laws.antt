@@ -1,5 +1,5 @@
 -- Labels that are there, a body line by the number of its kind, the loops over the lines, and the last line, in the words of the tables. Assumes nothing.
-use mathlib.Core.Path.{◌≡◌, refl, sym, ap, ◌∙◌}
+use mathlib.Core.Path.{◌≡◌, refl, sym, ap, subst, ◌∙◌}
 use Rattle.rules.specs.declared.Way.{Way}
 use Rattle.rules.specs.declared.Way.TheVariants as W
 use mathlib.Core.Bool.{Bool, true, false}
@@ -15,7 +15,7 @@ use Rattle.rules.specs.Typing.{Judged}
 use Rattle.rules.specs.declared.Line.{Line}
 use Rattle.rules.specs.declared.Answer.{Answer}
 use Rattle.rules.specs.When.{when}
-use Rattle.rules.specs.Answers.{answer, accepted, passes, first}
+use Rattle.rules.specs.Answers.{answer, accepted, passes, first, outcome}
 use Rattle.rules.specs.Numbers.{num_code}
 use Rattle.rules.specs.Text.Layout.{Tables}
 use Rattle.rules.proofs.Laws.Lists.{tab_length}
@@ -31,8 +31,12 @@ use Rattle.program.specs.Lines.{stored_at, tables_of}
 use Rattle.program.specs.Labels.{env_from}
 use Rattle.program.specs.Nodes.{after_of}
 use Rattle.program.proofs.Laws.{env_in, line_view, line_in_lem, line_drop}
-use Rattle.program.proofs.Walk.{NoneTo, way_rest, with_one_lem, with_two_lem}
-use Rattle.body.specs.Lines.{label_line, line_in, line_at, numbers_in, locals_in, lines_in, types_in}
+use Rattle.program.proofs.Walk.{with_one_lem, with_two_lem}
+use Rattle.std.specs.Prelude.{Result, Ok, Err}
+use Rattle.std.specs.Result.{MatchResult, is_ok}
+use Rattle.typing.specs.Walk.{Told}
+use Rattle.body.specs.declared.Then.{Then}
+use Rattle.body.specs.Lines.{line_by, label_line, line_in, line_at, numbers_in, locals_in, lines_in, types_in}
 
 -- ---- labels
 
@@ -66,52 +70,49 @@ module _ (Z R D L N B : List ℕ) (b : Bool) (Γ : Env) (i : ℕ) (s : Stored) (
   abbrev judged_at : ℕ → Judged
   judged_at k = type (rows_from Z R) (vars_from Z D) Γ (tree_of (tree_at N 16 k))
 
-  by_way : (w : Way) → way_of s.kind ≡ w → line ≡ line_in (tables_of Z N R D L B) b Γ (stmt_of N w s.label s.variable s.word s.node)
+  by_way : (w : Way) → w ≡ way_of s.kind → line ≡ line_in (tables_of Z N R D L B) b Γ (stmt_of N w s.label s.variable s.word s.node)
   unfolding line_at
-  by_way w q = rw (line_view N B i, sym e, q)
+  by_way w q = rw (line_view N B i, sym e, sym q)
 
-  by_kind : (n : ℕ) → s.kind ≡ n → line ≡ line_in (tables_of Z N R D L B) b Γ (stmt_of N (way_of n) s.label s.variable s.word s.node)
-  by_kind n q = by_way (way_of n) (ap way_of q)
+  pub set_line : W.Set ≡ way_of s.kind → line ≡ reached b Γ (rule_set (vars_from Z D) s.variable (judged_at s.node) Γ)
+  unfolding stmt_of line_in line_of program
+  set_line q = by_way W.Set q ∙ rw (with_one_lem (Stmt.set_s s.variable) (tree_at N 16 s.node))
 
-  pub set_line : s.kind ≡ 1 → line ≡ reached b Γ (rule_set (vars_from Z D) s.variable (judged_at s.node) Γ)
-  unfolding stmt_of way_of line_in line_of program
-  set_line q = by_kind 1 q ∙ rw (with_one_lem (Stmt.set_s s.variable) (tree_at N 16 s.node))
+  pub put_line_lem : W.Put ≡ way_of s.kind → line ≡ reached b Γ (rule_put (rows_from Z R) (num_code s.word) (judged_at s.node) (judged_at (after_of (tree_at N 16 s.node))) Γ)
+  unfolding stmt_of line_in line_of program
+  put_line_lem q = by_way W.Put q ∙ rw (with_two_lem N (λ x y. Stmt.put_s x (num_code s.word) y) (tree_at N 16 s.node))
 
-  pub put_line_lem : s.kind ≡ 2 → line ≡ reached b Γ (rule_put (rows_from Z R) (num_code s.word) (judged_at s.node) (judged_at (after_of (tree_at N 16 s.node))) Γ)
-  unfolding stmt_of way_of line_in line_of program
-  put_line_lem q = by_kind 2 q ∙ rw (with_two_lem N (λ x y. Stmt.put_s x (num_code s.word) y) (tree_at N 16 s.node))
+  pub goto_line : W.Goto ≡ way_of s.kind → line ≡ reached b Γ (rule_goto (labels_from Z L) s.label Γ)
+  unfolding stmt_of line_in line_of program
+  goto_line q = by_way W.Goto q
 
-  pub goto_line : s.kind ≡ 3 → line ≡ reached b Γ (rule_goto (labels_from Z L) s.label Γ)
-  unfolding stmt_of way_of line_in line_of program
-  goto_line q = by_kind 3 q
+  pub if_line : W.If ≡ way_of s.kind → line ≡ reached b Γ (rule_if (labels_from Z L) s.label (judged_at s.node) Γ)
+  unfolding stmt_of line_in line_of program
+  if_line q = by_way W.If q ∙ rw (with_one_lem (Stmt.if_s s.label) (tree_at N 16 s.node))
 
-  pub if_line : s.kind ≡ 4 → line ≡ reached b Γ (rule_if (labels_from Z L) s.label (judged_at s.node) Γ)
-  unfolding stmt_of way_of line_in line_of program
-  if_line q = by_kind 4 q ∙ rw (with_one_lem (Stmt.if_s s.label) (tree_at N 16 s.node))
+  pub ifimm_line : W.IfImm ≡ way_of s.kind → line ≡ reached b Γ (rule_ifimm (labels_from Z L) s.label s.variable (ty_var (vars_from Z D) Γ s.variable) Γ)
+  unfolding stmt_of line_in line_of program
+  ifimm_line q = by_way W.IfImm q
 
-  pub ifimm_line : s.kind ≡ 5 → line ≡ reached b Γ (rule_ifimm (labels_from Z L) s.label s.variable (ty_var (vars_from Z D) Γ s.variable) Γ)
-  unfolding stmt_of way_of line_in line_of program
-  ifimm_line q = by_kind 5 q
+  pub iftag_line : W.IfTag ≡ way_of s.kind → line ≡ reached b Γ (rule_iftag (rows_from Z R) (labels_from Z L) s.label s.variable (num_code s.word) (ty_var (vars_from Z D) Γ s.variable) Γ)
+  unfolding stmt_of line_in line_of program
+  iftag_line q = by_way W.IfTag q
 
-  pub iftag_line : s.kind ≡ 6 → line ≡ reached b Γ (rule_iftag (rows_from Z R) (labels_from Z L) s.label s.variable (num_code s.word) (ty_var (vars_from Z D) Γ s.variable) Γ)
-  unfolding stmt_of way_of line_in line_of program
-  iftag_line q = by_kind 6 q
+  pub ifint_line : W.IfInt ≡ way_of s.kind → line ≡ reached b Γ (rule_ifint (rows_from Z R) (labels_from Z L) s.label s.variable (num_code s.word) (ty_var (vars_from Z D) Γ s.variable) Γ)
+  unfolding stmt_of line_in line_of program
+  ifint_line q = by_way W.IfInt q
 
-  pub ifint_line : s.kind ≡ 7 → line ≡ reached b Γ (rule_ifint (rows_from Z R) (labels_from Z L) s.label s.variable (num_code s.word) (ty_var (vars_from Z D) Γ s.variable) Γ)
-  unfolding stmt_of way_of line_in line_of program
-  ifint_line q = by_kind 7 q
+  pub return_line : W.Return ≡ way_of s.kind → line ≡ reached b Γ (rule_return (kind_code (get_or Z 0 0)) (judged_at s.node) Γ)
+  unfolding stmt_of line_in line_of program
+  return_line q = by_way W.Return q ∙ rw (with_one_lem Stmt.return_s (tree_at N 16 s.node))
 
-  pub return_line : s.kind ≡ 8 → line ≡ reached b Γ (rule_return (kind_code (get_or Z 0 0)) (judged_at s.node) Γ)
-  unfolding stmt_of way_of line_in line_of program
-  return_line q = by_kind 8 q ∙ rw (with_one_lem Stmt.return_s (tree_at N 16 s.node))
+  pub label_line_lem : W.Label ≡ way_of s.kind → line ≡ label_line (env_from L s.label (length (vars_from Z D))) b Γ
+  unfolding stmt_of line_in
+  label_line_lem q = by_way W.Label q
 
-  pub label_line_lem : s.kind ≡ 9 → line ≡ label_line (env_from L s.label (length (vars_from Z D))) b Γ
-  unfolding stmt_of way_of line_in
-  label_line_lem q = by_kind 9 q
-
-  pub no_line : NoneTo 9 s.kind → line ≡ refuse 4 Γ
+  pub no_line : W.Absent ≡ way_of s.kind → line ≡ refuse 4 Γ
   unfolding stmt_of line_in line_of
-  no_line h = by_way W.Absent (way_rest s.kind h)
+  no_line q = by_way W.Absent q
 
 -- ---- a stage, line by line
 
@@ -123,9 +124,9 @@ first_no : (line a : ℕ) (l : List ℕ) → (a ≡ 0 → ⊥) → first line (a
 unfolding first
 first_no line a l z = rw (ne_eqb a 0 z)
 
-first_none : (line : ℕ) → first line [] ≡ accepted
+first_none : (from : ℕ) → first from [] ≡ accepted
 unfolding first
-first_none line = refl
+first_none from = refl
 
 pub locals_start : (Z R D : List ℕ) (r : ℕ) → r ≡ length (rows_from Z R) →
     first (2 + r + 0) (map (local_line (rows_from Z R)) (drop 0 (vars_from Z D))) ≡ first (2 + length (rows_from Z R)) (map (local_line (rows_from Z R)) (vars_from Z D))
@@ -151,6 +152,19 @@ module _ (t : Tables) (from i : ℕ) (b : Bool) (Γ : Env) where
 
     pub ahead_no : (x.answer ≡ 0 → ⊥) → ahead t from i b Γ ≡ answer x.answer (from + i)
     ahead_no z = rw ahead_is (first_no (from + i) x.answer _ z)
+
+pub err_of : {A : Type 0} (x : Result A ℕ) (P : A → Type 0) (Q : ℕ → Type 0) → MatchResult x P Q → false ≡ is_ok x → (n : ℕ) × (x ≡ Err n) × Q n
+err_of (Err n) P Q m e = (n, refl, m)
+err_of (Ok y) P Q m e = let z : ◌≡◌ {A = ℕ} 0 1 = cc in absurd (omega lin)
+
+-- a line that refuses
+pub ahead_refused : (t : Tables) (from i : ℕ) (b : Bool) (Γ : Env) (m n : ℕ) (x : Result Then ℕ) → x ≡ Err n → Told x → i < length (body_from t.size t.nodes t.body) →
+    line_by t.labels m Γ x ≡ line_at t b Γ i → ahead t from i b Γ ≡ lines_in t → Err (answer n (from + i)) ≡ outcome (lines_in t)
+ahead_refused t from i b Γ m n x q k h e p =
+    let z : 0 < n = subst Told q k in
+    let w : n ≡ 0 → ⊥ = λ y. omega (lin, y, z) in
+    let l : line_by t.labels m Γ (Err n) ≡ line_at t b Γ i = subst (λ (y : Result Then ℕ). line_by t.labels m Γ y ≡ line_at t b Γ i) q e in
+    rw (sym p ∙ ahead_no t from i b Γ (refuse n Γ) h l w, ne_eqb n 0 w) refl
 
 pub lines_start : (t : Tables) (r v : ℕ) (Γ : Env) → r ≡ length (rows_from t.size t.rows) → v ≡ length (vars_from t.size t.vars) → Γ ≡ start_env (vars_from t.size t.vars) →
     ahead t (2 + r + v) 0 true Γ ≡ lines_in t
@@ -195,15 +209,8 @@ end_way N W.IfInt l v x k = refl
 end_way N W.Return l v x k = rw (with_one_lem Stmt.return_s (tree_at N 16 k))
 end_way N W.Label l v x k = refl
 
-module _ (N B : List ℕ) (i : ℕ) (s : Stored) (e : s ≡ stored_at B i) where
-  end_by : (w : Way) → way_of s.kind ≡ w → is_end (stmt_from N B i) ≡ stops w
-  end_by w q = rw (line_view N B i, sym e, q) (end_way N w s.label s.variable s.word s.node)
-
-  pub end_kind : (n : ℕ) → s.kind ≡ n → is_end (stmt_from N B i) ≡ stops (way_of n)
-  end_kind n q = end_by (way_of n) (ap way_of q)
-
-  pub end_rest : NoneTo 9 s.kind → is_end (stmt_from N B i) ≡ false
-  end_rest h = end_by W.Absent (way_rest s.kind h)
+pub end_line : (N B : List ℕ) (i : ℕ) (s : Stored) → s ≡ stored_at B i → (w : Way) → w ≡ way_of s.kind → is_end (stmt_from N B i) ≡ stops w
+end_line N B i s e w q = rw (line_view N B i, sym e, sym q) (end_way N w s.label s.variable s.word s.node)
 
 last_at : (l : List Stmt) → 0 < length l → last_of l ≡ get_or l (length l - 1) bad_s
 unfolding last_of

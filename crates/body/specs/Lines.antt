@@ -1,37 +1,57 @@
 -- The body lines of the tables. A label takes the environment that stands in its place in the table, whether it is there or not;
 -- every other line is as the rules say, and so is a label that is there (`There`). For the rules an absent label's environment has no entry at all,
 -- and code has no such environment: each has an entry for all 32 variables. Assumes nothing.
-use Rattle.std.specs.Prelude.{◌⊎◌}
 use Rattle.std.specs.Prelude.{◌+◌, ◌∷◌, ◌++◌, ◌≡◌}
-use Rattle.rules.specs.Prelude.{ℕ, Bool, true, false, List, [], map, length}
+use Rattle.rules.specs.Prelude.{ℕ, Bool, true, false, List, [], map, length, eqb, Result, Ok, Err}
 use Rattle.rules.specs.declared.Env.{Env}
 use Rattle.rules.specs.declared.Line.{Line}
+use Rattle.rules.specs.declared.Way.{Way}
+use Rattle.rules.specs.declared.Way.TheVariants as W
 use Rattle.rules.specs.declared.Answer.{Answer}
-use Rattle.rules.specs.When.{need}
+use Rattle.rules.specs.When.{when, need}
 use Rattle.rules.specs.Answers.{first}
 use Rattle.rules.specs.Text.Layout.{Tables}
-use Rattle.rules.specs.Program.{Stmt, bad_s, set_s, put_s, goto_s, if_s, ifimm_s, iftag_s, ifint_s, return_s, label_s}
-use Rattle.rules.specs.View.{rows_from, vars_from, body_from, stmt_from, program}
+use Rattle.rules.specs.Typing.{Judged, type}
+use Rattle.rules.specs.Program.{Rows, Var, Stmt, bad_s, set_s, put_s, goto_s, if_s, ifimm_s, iftag_s, ifint_s, return_s, label_s}
+use Rattle.rules.specs.View.{tree_of, tree_at, rows_from, vars_from, body_from, stmt_from, program}
 use Rattle.rules.specs.Environments.{covers_env, with_entry, start_env}
 use Rattle.rules.specs.Body.{goes, refuse, line_of, local_line, onward}
 use Rattle.program.specs.Labels.{env_from}
 use Rattle.body.specs.declared.Then.{Then}
-use Rattle.body.specs.declared.Then.TheVariants.{Stays, Takes, Label}
-use Rattle.body.specs.declared.Deed.{Deed}
+use Rattle.body.specs.declared.Then.TheVariants.{Ends, Stays, Takes, Label}
 
--- the kinds of the lines with one expression: `set`, `if`, `return`
-abbrev pub HasOne : ℕ → Type 0
-HasOne n = (n ≡ 1) ⊎ ((n ≡ 4) ⊎ (n ≡ 8))
+-- the lines with one expression
+abbrev pub HasOne : Way → Type 0
+HasOne W.Absent = ⊥
+HasOne W.Set = Unit
+HasOne W.Put = ⊥
+HasOne W.Goto = ⊥
+HasOne W.If = Unit
+HasOne W.IfImm = ⊥
+HasOne W.IfTag = ⊥
+HasOne W.IfInt = ⊥
+HasOne W.Return = Unit
+HasOne W.Label = ⊥
 
--- the environment after a line that began with Γ, where the labels stand in L and there are m variables
-abbrev pub left : List ℕ → ℕ → Env → Then → Env
-left L m Γ Stays = Γ
-left L m Γ (Takes v e) = with_entry Γ v e
-left L m Γ (Label l) = env_from L l m
+-- what the expression at node k is judged as
+abbrev pub judged_at : Rows → List Var → Env → List ℕ → ℕ → Judged
+judged_at ρ D Γ N k = type ρ D Γ (tree_of (tree_at N 16 k))
 
--- what a line that does x is, of one that began with Γ
-abbrev pub line_by : List ℕ → ℕ → Env → Deed → Line
-line_by L m Γ x = record { answer = x.answer; live = x.live; env = left L m Γ x.then }
+-- what a line that does x is, of one that began with Γ, where the labels stand in L and there are m variables
+abbrev pub line_by : List ℕ → ℕ → Env → Result Then ℕ → Line
+line_by L m Γ (Err n) = refuse n Γ
+line_by L m Γ (Ok Ends) = goes false Γ
+line_by L m Γ (Ok Stays) = goes true Γ
+line_by L m Γ (Ok (Takes v e)) = goes true (with_entry Γ v e)
+line_by L m Γ (Ok (Label l)) = goes true (env_from L l m)
+
+-- x is what the line z does, of one that began with Γ, wherever the labels stand and however many variables there are
+abbrev pub Does : Env → Result Then ℕ → Line → Type 0
+Does Γ x z = (L : List ℕ) (m : ℕ) → line_by L m Γ x ≡ z
+
+-- a line's number as code hands it on: nothing where it is 0, and else as an error
+abbrev pub number_out : ℕ → Result Unit ℕ
+number_out n = when (eqb n 0) (λ _. Ok tt) (λ _. Err n)
 
 -- what falls into a label with the environment Δ is covered (11); after it Δ holds
 unfoldable pub label_line : Env → Bool → Env → Line

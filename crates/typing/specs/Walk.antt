@@ -1,5 +1,5 @@
 -- The judgement of the tree at a node, with the node after it; and a node's judgement from its operands'. Assumes nothing.
-use Rattle.std.specs.Prelude.{◌≡◌, Ok, Err}
+use Rattle.std.specs.Prelude.{◌≡◌, ◌<◌, Result, Ok, Err}
 use Rattle.rules.specs.declared.Form.{Form}
 use Rattle.rules.specs.declared.Form.TheVariants as M
 use Rattle.rules.specs.Prelude.{ℕ, List, refl}
@@ -29,6 +29,11 @@ arith_tags o (Ok (Value r, e)) (Err m) = refl
 arith_tags o (Ok (Cint, e)) (Ok (Cint, d)) = refl
 arith_tags o (Ok (Cint, e)) (Ok (Value q, d)) = refl
 arith_tags o (Ok (Value r, e)) (Ok (l, d)) = refl
+
+-- a number that refuses: 0 is that of a line that goes on
+abbrev pub Told : {A : Type 0} → Result A ℕ → Type 0
+Told (Err n) = 0 < n
+Told (Ok x) = Unit
 
 -- a node's judgement, from its argument and the judgements of its operands
 unfoldable pub form : Rows → List Var → Env → Form → ℕ → Judged → Judged → Judged

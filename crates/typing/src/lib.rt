@@ -2,12 +2,11 @@
 // Operands are judged left to right, each with the node after it; then the form itself.
 #![tactic(auto)]
 
-ghost use Rattle.std.specs.Prelude.{◌≡◌, List, ℕ, ◌/◌, ◌%◌, ◌<◌, pos, ◌+ℤ◌, get_or};
+ghost use Rattle.std.specs.Prelude.{◌≡◌, List, ◌/◌, ◌%◌, ◌<◌, pos, get_or};
 ghost use Rattle.rules.specs.Numbers.{num};
 ghost use Rattle.rules.specs.Program.{Rows, Var, entry};
 ghost use Rattle.rules.specs.View.{rows_from, vars_from, form_of};
-ghost use Rattle.rules.specs.Typing.{Judged, arith_tag, arith_kinds, suits_tag, val_of, immediate, int_of, lone, spot, spot_of, addr_at, addr_spot, address_of, fetched, stepped, step_kinds, ty_var, ty_arith, ty_val, ty_int, ty_fetch, ty_step};
-ghost use Rattle.number.specs.Places.{index_in};
+ghost use Rattle.rules.specs.Typing.{arith_tag, suits_tag, val_of, immediate, int_of, lone, spot, spot_of, addr_at, addr_spot, address_of, ty_var, ty_arith, ty_val, ty_int, ty_fetch, ty_step};
 ghost use Rattle.program.specs.Nodes.{arity};
 ghost use Rattle.coded.specs.Coded.{env_of};
 ghost use Rattle.typing.specs.Walk.{tag_only, form, found, found_at};

@@ -1,11 +1,8 @@
-use Rattle.std.proofs.Common.{drop, length, map, ◌+◌, ◌-◌, ◌≡◌, ◌≤◌}
+use Rattle.std.proofs.Common.{drop, length, map, ◌+◌, ◌≡◌}
 use Rattle.rules.specs.Answers.{first}
 use Rattle.rules.specs.Body.{local_line}
 use Rattle.rules.specs.View.{rows_from, vars_from}
 use Rattle.body.proofs.locals_typed.Given as goal
 
 abbrev pub invariant-loop-v : goal.invariant-loop-v
-invariant-loop-v l = (l.v ≤ l.n) × (first (l.from + l.v) (map (local_line (rows_from l.size l.rows)) (drop l.v (vars_from l.size l.vars))) ≡ first (2 + length (rows_from l.size l.rows)) (map (local_line (rows_from l.size l.rows)) (vars_from l.size l.vars)))
-
-abbrev pub decreases-loop-v : goal.decreases-loop-v
-decreases-loop-v l = l.n - l.v
+invariant-loop-v l = (first (l.from + l.v) (map (local_line (rows_from l.size l.rows)) (drop l.v (vars_from l.size l.vars))) ≡ first (2 + length (rows_from l.size l.rows)) (map (local_line (rows_from l.size l.rows)) (vars_from l.size l.vars)))
