@@ -53,7 +53,6 @@ fn has_tag(size: &[u32; 6], rows: &[u32; 17536], r: usize, n: Num) -> bool
 }
 
 // Whether label l is there and covers an environment.
-#[tactic(auto, using(crate::proofs::Laws::env_covers))]
 fn lands(size: &[u32; 6], labels: &[u64; 6208], l: usize, env: Env) -> bool
     ensures { result ≡ (ltb l (length (labels_from size.now labels.now)) && covers (labels_from size.now labels.now) l env) }
 {
@@ -430,7 +429,6 @@ fn start_entry(size: &[u32; 6], vars: &[u32; 96], v: usize) -> Entry
 }
 
 // The numbers of the environment in which the body starts.
-#[tactic(auto, using(program::proofs::Places::entered_all, program::proofs::Places::entered_end, program::proofs::Places::entered_step, coded::proofs::Laws::blank), unfolding(rules::specs::Environments::start_env, coded::specs::Coded::env_of, rules::specs::Environments::with_entry))]
 fn start_codes(size: &[u32; 6], vars: &[u32; 96]) -> [u64; 96]
     ensures { env_of result (length (vars_from size.now vars.now)) ≡ start_env (vars_from size.now vars.now) }
 {
@@ -442,7 +440,7 @@ fn start_codes(size: &[u32; 6], vars: &[u32; 96]) -> [u64; 96]
 }
 
 // The lines of the body, each in the environment that the line before it leaves. Its numbers are kept beside it, for the expressions.
-#[tactic(auto, using(crate::proofs::Laws::ahead_end, crate::proofs::Laws::ahead_refused, crate::proofs::Laws::ahead_on, crate::proofs::Laws::lines_start, crate::proofs::Laws::own_count, crate::proofs::Laws::takes_in, crate::proofs::Laws::takes_past, coded::proofs::Laws::env_label, program::proofs::Laws::lines_small, program::proofs::Laws::rows_small, program::proofs::Laws::vars_small), unfolding(rules::specs::Environments::with_entry))]
+#[tactic(auto, using(crate::proofs::Laws::ahead_on, crate::proofs::Laws::own_count, crate::proofs::Laws::takes_in, crate::proofs::Laws::takes_past, coded::proofs::Laws::env_label), unfolding(rules::specs::Environments::with_entry))]
 fn lines_typed(
     size: &[u32; 6],
     rows: &[u32; 17536],
@@ -510,7 +508,7 @@ fn is_end(body: &[u32; 2560], i: usize) -> bool
 }
 
 // 13: the last line of the file is neither `goto` nor `return`.
-#[tactic(auto, using(crate::proofs::Laws::last_is, crate::proofs::Laws::no_last, program::proofs::Laws::lines_small, program::proofs::Laws::rows_small, program::proofs::Laws::vars_small), unfolding(rules::specs::Body::ends, rules::specs::View::program))]
+#[tactic(auto, using(crate::proofs::Laws::last_is, crate::proofs::Laws::no_last), unfolding(rules::specs::Body::ends, rules::specs::View::program))]
 pub fn ended(size: &[u32; 6], body: &[u32; 2560]) -> Result<(), Answer>
     ensures { (R D L N : List ℕ) → result ≡ outcome (ends (program (tables_of size.now N R D L body.now))) }
 {
