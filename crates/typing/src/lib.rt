@@ -261,7 +261,7 @@ fn ty_step(size: &[u32; 6], rows: &[u32; 17536], x: Judged, y: Judged) -> Judged
 // The forms by how many operands they have. Those with operands are judged by functions that the walk alone calls, so that no judgement is copied on its way out.
 
 // A number or a variable; no other form that has no operands is anything (4).
-#[tactic(auto, unfolding(crate::specs::Walk::form))]
+#[tactic(auto, unfolding(crate::specs::Walk::form, rules::specs::Typing::ty_arith, rules::specs::Typing::ty_val, rules::specs::Typing::ty_int, rules::specs::Typing::ty_fetch, rules::specs::Typing::ty_step))]
 fn leaf(
     size: &[u32; 6],
     vars: &[u32; 96],
@@ -270,7 +270,6 @@ fn leaf(
     what: Form,
     a: u32,
 ) -> Judged
-    requires { arity what ≡ 0 }
     ensures { (ρ : Rows) → result ≡ form ρ (vars_from size.now vars.now) (env_of codes.now count) what a (Err 4) (Err 4) }
 {
     match what {
@@ -319,7 +318,6 @@ fn leaf_at(
     count: usize,
     at: usize,
 ) -> Judged
-    requires { arity (form_of (get_or nodes.now at 0 / 4294967296)) ≡ 0 }
     ensures { (ρ : Rows) → result ≡ form ρ (vars_from size.now vars.now) (env_of codes.now count) (form_of (get_or nodes.now at 0 / 4294967296)) (get_or nodes.now at 0 % 4294967296) (Err 4) (Err 4) }
 {
     let what = program::form_of(program::operation(nodes, at));

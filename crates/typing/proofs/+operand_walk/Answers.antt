@@ -10,9 +10,6 @@ use Rattle.typing.proofs.Laws.{folds, of_form, of_step, of_calc, tree_of_lem, af
 use Rattle.typing.proofs.+operand_walk.Goals as goal
 use Rattle.typing.proofs.+operand_walk.Goals.{walk-in-Absent, walk-in_default}
 
-pub operand-leaf_at-j-requires : goal.operand-leaf_at-j-requires
-operand-leaf_at-j-requires t c = (leaf_there _ _ _ c.is_leaf.ensures c.if-is_leaf.true).2
-
 pub operand-overflow_add-at : goal.operand-overflow_add-at
 operand-overflow_add-at t c = omega (arith, (leaf_there _ _ _ c.is_leaf.ensures c.if-is_leaf.true).1)
 
