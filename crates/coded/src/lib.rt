@@ -45,7 +45,7 @@ pub fn put_entry(codes: &mut [u64; 96], v: usize, e: Entry)
 {
     let c = entry::codes_of(e);
     let k = v.min(32) * 3;
-    table::put64(codes, k, c.boxed);
-    table::put64(codes, k + 1, c.offset);
-    table::put64(codes, k + 2, c.tag);
+    table::put(codes, k, c.boxed);
+    table::put(codes, k + 1, c.offset);
+    table::put(codes, k + 2, c.tag);
 }

@@ -10,7 +10,7 @@ pub returns-clause-by_index : goal.returns-clause-by_index
 unfolding put_codes
 returns-clause-by_index c =
     let a = c.args in
-    let written : c.put64-3.new.t ≡ put_codes a.codes.now a.v a.e =
-    rw (c.put64-3.ensures, c.put64-2.ensures, c.put64.ensures, c.codes_of-c.ensures)
+    let written : c.put-3.new.t ≡ put_codes a.codes.now a.v a.e =
+    rw (c.put-3.ensures, c.put-2.ensures, c.put.ensures, c.codes_of-c.ensures)
     (clamped (λ (u : ℕ). put_codes a.codes.now u a.e) a.codes.now 32 a.v _ c.min-k.ensures (λ u h. put_past a.codes.now u a.e c.told-codes h)) in
     λ n. ap (λ (C : List ℕ). env_of C n) written ∙ env_put a.codes.now a.v a.e c.told-codes n (small a.e _ c.well_formed.1.1.0)
