@@ -1,4 +1,4 @@
--- The words and lines of a store text: one law for each way that the code goes. Assumes nothing.
+-- The cells and lines of a store text: one law for each way that a loop goes. Assumes nothing.
 use native.Mathlib.Omega.{arith}
 use borrow.Author.Tests.{lt-ltb, le-ltb, eq-eqb, ne_eqb}
 use Rattle.std.specs.Prelude.{◌+◌, ◌-◌, ◌<◌, ◌≤◌, ◌≡◌, Result, Ok, Err}
