@@ -5,30 +5,30 @@ use Rattle.rules.specs.declared.Way.{Way}
 use Rattle.rules.specs.declared.Op.{Op}
 use Rattle.rules.specs.declared.Form.TheVariants as M
 use Rattle.rules.specs.declared.Way.TheVariants as W
-use native.Mathlib.Decide.{dec_lt}
 use mathlib.Core.Logic.{◌⊎◌, inl, inr}
 use mathlib.Core.Path.{ap₂}
-use lib.ListN.{get_or-eq_default, get_or-map, length-map}
+use lib.ListN.{length-map}
 use borrow.Author.Tests.{ne_eqb, eqb-true, eqb-false}
+use Rattle.std.specs.Bool.{then_some}
 use Rattle.std.specs.Option.{is_some}
 use Rattle.std.specs.Prelude.{◌+◌, ◌-◌, ◌/◌, ◌%◌, ◌<◌, ◌≤◌, ◌&&◌, ◌∷◌, ◌++◌, ◌≡◌, Option, Some, None, Result, Ok, Err}
-use Rattle.rules.specs.Prelude.{ℕ, zero, suc, Bool, true, false, List, [], map, refl, sym, ap, ◌∙◌, not, eqb, length, get_or, drop}
+use Rattle.rules.specs.Prelude.{ℕ, zero, suc, Bool, true, false, List, [], map, refl, sym, ap, ◌∙◌, length, get_or, drop}
 use Rattle.rules.specs.declared.Answer.{Answer}
 use Rattle.rules.specs.Numbers.{num_code}
 use Rattle.rules.specs.Answers.{answer, passes, and_then, outcome, first}
 use Rattle.rules.specs.When.{One}
 use Rattle.rules.specs.Environments.{no_var}
-use Rattle.rules.specs.Program.{Prog, Var, Expr, Stmt, bad_s, set_s, put_s, goto_s, if_s, ifimm_s, iftag_s, ifint_s, return_s, row_there, kind_at, label_at, no_entry}
-use Rattle.rules.specs.View.{tab, vars_from, labels_from, label_from, entry_from, Walked, walked, form_of, tree_at, way_of, tree_of, with_one, with_two, stmt_of, stmt_from, body_from}
+use Rattle.rules.specs.Program.{Prog, Var, Expr, Stmt, bad_s, set_s, put_s, if_s, return_s, row_there, kind_at, label_at, no_entry}
+use Rattle.rules.specs.View.{vars_from, labels_from, label_from, entry_from, Walked, walked, form_of, tree_at, way_of, tree_of, with_one, with_two, stmt_of, stmt_from, body_from}
 use Rattle.rules.specs.Names.{expr_there, fields_there, products_there, entry_suits, entries_suit, label_suits, name_kind, name_row, name_var}
-use Rattle.rules.proofs.Laws.Lists.{tab_length, tab_in}
+use Rattle.rules.proofs.Laws.Lists.{tab_length}
 use Rattle.table.proofs.Passes.{left_more, left_none, then_on, then_no, first_append, lines_done, lines_on, lines_no}
 use Rattle.program.specs.declared.Stored.{Stored}
 use Rattle.program.specs.Lines.{stored_at}
 use Rattle.program.proofs.Laws.{vars_small, label_in, label_out, line_in_lem, line_view}
 use Rattle.program.specs.Nodes.{arity, after_of}
 use Rattle.program.proofs.Walk.{Folds, ends_deep, ends_past, ends_leaf, ends_one, ends_two}
-use Rattle.names.specs.Walk.{form_there, some_if, there_at}
+use Rattle.names.specs.Walk.{form_there, there_at}
 use Rattle.names.specs.Passed.{passed, on_line}
 use Rattle.names.specs.Trees.{line_named, names_in}
 
@@ -172,11 +172,11 @@ two_operands {f} (inl e) = ((λ q. omega (lin, sym (ap arity e) ∙ q)), λ q. o
 two_operands {f} (inr (o, e)) = ((λ q. omega (lin, sym (ap arity e) ∙ q)), λ q. omega (lin, sym (ap arity e) ∙ q))
 
 -- whether there is a node after it tells whether what it names exists
-none_there : (b : Bool) (n : ℕ) → None ≡ some_if b n → b ≡ false
+none_there : (b : Bool) (n : ℕ) → None ≡ then_some b n → b ≡ false
 none_there true n e = absurd (grind lin)
 none_there false n e = refl
 
-some_there : (b : Bool) (n : ℕ) {m : ℕ} → Some m ≡ some_if b n → (b ≡ true) × (m ≡ n)
+some_there : (b : Bool) (n : ℕ) {m : ℕ} → Some m ≡ then_some b n → (b ≡ true) × (m ≡ n)
 some_there true n e = (refl, grind lin)
 some_there false n e = absurd (grind lin)
 
@@ -194,24 +194,24 @@ module _ (P : Prog) (N : List ℕ) (d k : ℕ) where
   unfolding there_at
   tree_test = by (expr_there P (tree_of (tree_at N d k)))
     where
-      by : (b : Bool) → is_some (some_if b (after_of (tree_at N d k))) ≡ b
+      by : (b : Bool) → is_some (then_some b (after_of (tree_at N d k))) ≡ b
       by true = refl
       by false = refl
 
 module _ (P : Prog) (N : List ℕ) (d k : ℕ) where
   pub at_zero : d ≡ 0 → None ≡ there_at P N d k
   unfolding there_at expr_there
-  at_zero e = ends_deep (expr_there P) some_if N d k e
+  at_zero e = ends_deep (expr_there P) then_some N d k e
 
   pub at_past : (d ≡ 0 → ⊥) → 4096 ≤ k → None ≡ there_at P N d k
   unfolding there_at expr_there
-  at_past z h = ends_past (expr_there P) some_if N d k z h
+  at_past z h = ends_past (expr_there P) then_some N d k z h
 
   -- the ways in which a walk goes on, by the form that it read
   module _ (z : d ≡ 0 → ⊥) (h : k < 4096) {op a : ℕ} (eo : op ≡ get_or N k 0 / 4294967296) (ea : a ≡ get_or N k 0 % 4294967296) {f : Form} (ef : f ≡ form_of op) where
-    pub leaf_is : (b : Bool) → arity f ≡ 0 → b ≡ form_there P f a true true → some_if b (k + 1) ≡ there_at P N d k
+    pub leaf_is : (b : Bool) → arity f ≡ 0 → b ≡ form_there P f a true true → then_some b (k + 1) ≡ there_at P N d k
     unfolding there_at
-    leaf_is b q e = ends_leaf (expr_there P) some_if N d k (form_there P) (folds P) op a 0 z h eo ea (sym q ∙ ap arity ef) b true true refl (rw ef at e)
+    leaf_is b q e = ends_leaf (expr_there P) then_some N d k (form_there P) (folds P) op a 0 z h eo ea (sym q ∙ ap arity ef) b true true refl (rw ef at e)
 
     abbrev here : Bool
     here = expr_there P (tree_of (tree_at N (d - 1) (k + 1)))
@@ -219,9 +219,9 @@ module _ (P : Prog) (N : List ℕ) (d k : ℕ) where
     abbrev next : ℕ
     next = after_of (tree_at N (d - 1) (k + 1))
 
-    with_one_lem : (j : Bool) → arity f ≡ 1 → j ≡ form_there P f a here true → some_if j next ≡ there_at P N d k
+    with_one_lem : (j : Bool) → arity f ≡ 1 → j ≡ form_there P f a here true → then_some j next ≡ there_at P N d k
     unfolding there_at
-    with_one_lem j q e = ends_one (expr_there P) some_if N d k (form_there P) (folds P) op a 1 z h eo ea (sym q ∙ ap arity ef) j here true next refl refl refl (rw ef at e)
+    with_one_lem j q e = ends_one (expr_there P) then_some N d k (form_there P) (folds P) op a 1 z h eo ea (sym q ∙ ap arity ef) j here true next refl refl refl (rw ef at e)
 
     pub one_not : arity f ≡ 1 → false ≡ form_there P f a here true → None ≡ there_at P N d k
     one_not q e = with_one_lem false q e
@@ -230,10 +230,10 @@ module _ (P : Prog) (N : List ℕ) (d k : ℕ) where
     unfolding there_at
     one_is q e ex = ex ∙ with_one_lem here q e
 
-    with_two_lem : (i : ℕ) → i ≡ next → (j : Bool) → (arity f ≡ 0 → ⊥) → (arity f ≡ 1 → ⊥) → j ≡ (here && expr_there P (tree_of (tree_at N (d - 1) i))) → some_if j (after_of (tree_at N (d - 1) i)) ≡ there_at P N d k
+    with_two_lem : (i : ℕ) → i ≡ next → (j : Bool) → (arity f ≡ 0 → ⊥) → (arity f ≡ 1 → ⊥) → j ≡ (here && expr_there P (tree_of (tree_at N (d - 1) i))) → then_some j (after_of (tree_at N (d - 1) i)) ≡ there_at P N d k
     unfolding there_at
     with_two_lem i q j z₀ z₁ e =
-        ends_two (expr_there P) some_if N d k (form_there P) (folds P) op a (arity f) z h eo ea (ap arity ef) j here (expr_there P (tree_of (tree_at N (d - 1) i))) i (after_of (tree_at N (d - 1) i)) z₀ z₁ refl q refl refl
+        ends_two (expr_there P) then_some N d k (form_there P) (folds P) op a (arity f) z h eo ea (ap arity ef) j here (expr_there P (tree_of (tree_at N (d - 1) i))) i (after_of (tree_at N (d - 1) i)) z₀ z₁ refl q refl refl
         (rw ef at (e ∙ sym (two_form P f a here _ z₀ z₁)))
 
     pub two_none : (arity f ≡ 0 → ⊥) → (arity f ≡ 1 → ⊥) → None ≡ there_at P N (d - 1) (k + 1) → None ≡ there_at P N d k

@@ -1,5 +1,6 @@
 -- Whether a tree names only what exists, form by form, and the node after a tree that does. Assumes nothing.
-use Rattle.std.specs.Prelude.{◌&&◌, Option, Some, None}
+use Rattle.std.specs.Prelude.{◌&&◌, Option}
+use Rattle.std.specs.Bool.{then_some}
 use Rattle.rules.specs.declared.Form.{Form}
 use Rattle.rules.specs.declared.Form.TheVariants as M
 use Rattle.rules.specs.Prelude.{ℕ, Bool, true, false, List}
@@ -20,9 +21,5 @@ form_there P M.Step a x y = x && y
 form_there P (M.Calc o) a x y = x && y
 
 -- the node after a tree, and nothing where what the tree names does not exist
-abbrev pub some_if : Bool → ℕ → Option ℕ
-some_if true n = Some n
-some_if false n = None
-
 unfoldable pub there_at : Prog → List ℕ → ℕ → ℕ → Option ℕ
-there_at P N d k = some_if (expr_there P (tree_of (tree_at N d k))) (after_of (tree_at N d k))
+there_at P N d k = then_some (expr_there P (tree_of (tree_at N d k))) (after_of (tree_at N d k))

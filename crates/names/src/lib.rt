@@ -110,13 +110,7 @@ fn there_at(size: &[u32; 6], nodes: &[u64; 4096], depth: usize, at: usize) -> Op
     match program::form_of(program::operation(nodes, at)) {
         Form::Absent => None,
         Form::Lit => Some(first),
-        Form::Var => {
-            if program::var_there(size, a) {
-                Some(first)
-            } else {
-                None
-            }
-        }
+        Form::Var => program::var_there(size, a).then_some(first),
         Form::Fetch | Form::Int => there_at(size, nodes, depth - 1, first),
         Form::Val => {
             if program::row_there(size, a) {

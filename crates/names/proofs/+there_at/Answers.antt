@@ -15,15 +15,10 @@ unfolding program
 returns-in-Lit t c R D L B =
     leaf_is _ _ _ _ c.if-depth-eq0.false c.if-at-ge-NODES.false c.operation.ensures c.argument-a.ensures c.in-Lit.ensures true refl refl
 
-pub returns-then-var_there : goal.returns-then-var_there
+pub returns-in-Var : goal.returns-in-Var
 unfolding program
-returns-then-var_there t c R D L B =
-    leaf_is _ _ _ _ c.if-depth-eq0.false c.if-at-ge-NODES.false c.operation.ensures c.argument-a.ensures c.in-Var.ensures true refl (sym c.if-var_there.true ∙ c.var_there.ensures D)
-
-pub returns-else-var_there : goal.returns-else-var_there
-unfolding program
-returns-else-var_there t c R D L B =
-    leaf_is _ _ _ _ c.if-depth-eq0.false c.if-at-ge-NODES.false c.operation.ensures c.argument-a.ensures c.in-Var.ensures false refl (sym c.if-var_there.false ∙ c.var_there.ensures D)
+returns-in-Var t c R D L B =
+    c.then_some.ensures ∙ leaf_is _ _ _ _ c.if-depth-eq0.false c.if-at-ge-NODES.false c.operation.ensures c.argument-a.ensures c.in-Var.ensures _ refl (c.var_there.ensures D)
 
 pub returns-in-Fetch : goal.returns-in-Fetch
 returns-in-Fetch t c R D L B =

@@ -1,4 +1,4 @@
-use Rattle.std.proofs.Common.{drop, ◌-◌, ◌≡◌, ◌≤◌}
+use Rattle.std.proofs.Common.{drop, ◌≡◌}
 use Rattle.rules.specs.Names.{entries_suit}
 use Rattle.rules.specs.Program.{label_at}
 use Rattle.rules.specs.View.{labels_from, vars_from}

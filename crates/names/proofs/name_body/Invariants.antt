@@ -1,4 +1,4 @@
-use Rattle.std.proofs.Common.{List, drop, map, ℕ, ◌+◌, ◌-◌, ◌≡◌, ◌≤◌}
+use Rattle.std.proofs.Common.{List, drop, map, ℕ, ◌+◌, ◌≡◌}
 use Rattle.rules.specs.View.{body_from, program}
 use Rattle.rules.specs.Answers.{first}
 use Rattle.names.specs.Trees.{line_named}

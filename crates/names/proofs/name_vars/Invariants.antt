@@ -1,4 +1,4 @@
-use Rattle.std.proofs.Common.{List, drop, map, ℕ, ◌+◌, ◌-◌, ◌≡◌, ◌≤◌}
+use Rattle.std.proofs.Common.{List, drop, map, ℕ, ◌+◌, ◌≡◌}
 use Rattle.rules.specs.Answers.{first}
 use Rattle.rules.specs.Names.{name_var}
 use Rattle.rules.specs.View.{program, vars_from}

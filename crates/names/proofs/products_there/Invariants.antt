@@ -1,4 +1,4 @@
-use Rattle.std.proofs.Common.{List, drop, ℕ, ◌-◌, ◌≡◌, ◌≤◌}
+use Rattle.std.proofs.Common.{List, drop, ℕ, ◌≡◌}
 use Rattle.rules.specs.Names.{products_there}
 use Rattle.rules.specs.View.{program, rows_from}
 use Rattle.rules.specs.Program.{row_at}
