@@ -216,7 +216,7 @@ fn on_line(said: Result<(), u32>, line: usize) -> Result<(), Answer>
     said.map_err(|number| Answer { number, line })
 }
 
-#[tactic(auto, using(program::proofs::Laws::rows_small, crate::proofs::Laws::lines_end, crate::proofs::Laws::line_no, crate::proofs::Laws::line_on), unfolding(rules::specs::Names::name_row, rules::specs::Program::row_at))]
+#[tactic(auto, using(crate::proofs::Laws::lines_end, program::proofs::Laws::rows_small))]
 fn name_rows(size: &[u32; 6], rows: &[u32; 17536], line: usize) -> Result<(), Answer>
     requires { line < 1000 }
     ensures { (N D L B : List ℕ) → result ≡ outcome (first line (map (name_row (program (tables_of size.now N rows.now D L B))) (rows_from size.now rows.now))) }
@@ -233,7 +233,7 @@ fn name_rows(size: &[u32; 6], rows: &[u32; 17536], line: usize) -> Result<(), An
     Ok(())
 }
 
-#[tactic(auto, using(program::proofs::Laws::vars_small, crate::proofs::Laws::lines_end, crate::proofs::Laws::line_no, crate::proofs::Laws::line_on), unfolding(rules::specs::Names::name_var, rules::specs::Program::kind_at))]
+#[tactic(auto, using(crate::proofs::Laws::lines_end, program::proofs::Laws::vars_small))]
 fn name_vars(size: &[u32; 6], vars: &[u32; 96], line: usize) -> Result<(), Answer>
     requires { line < 1000 }
     ensures { (N R L B : List ℕ) → result ≡ outcome (first line (map (name_var (program (tables_of size.now N R vars.now L B))) (vars_from size.now vars.now))) }
@@ -246,7 +246,7 @@ fn name_vars(size: &[u32; 6], vars: &[u32; 96], line: usize) -> Result<(), Answe
     Ok(())
 }
 
-#[tactic(auto, using(crate::proofs::Laws::line_there, program::proofs::Laws::lines_small, rules::specs::Program::bad_s, crate::proofs::Laws::lines_end, crate::proofs::Laws::line_no, crate::proofs::Laws::line_on))]
+#[tactic(auto, using(crate::proofs::Laws::lines_end, program::proofs::Laws::lines_small))]
 fn name_body(
     size: &[u32; 6],
     nodes: &[u64; 4096],
@@ -268,7 +268,7 @@ fn name_body(
 }
 
 // The first line that is refused, `ret` being line 1. Without `trees` what expressions name is not looked at: for a caller who knows that it exists.
-#[tactic(auto, using(crate::proofs::Laws::names_body, crate::proofs::Laws::names_rows, crate::proofs::Laws::names_top, crate::proofs::Laws::names_vars, program::proofs::Laws::rows_small, program::proofs::Laws::vars_small), unfolding(rules::specs::View::program))]
+#[tactic(auto, using(program::proofs::Laws::rows_small, program::proofs::Laws::vars_small))]
 pub fn named(
     size: &[u32; 6],
     nodes: &[u64; 4096],
