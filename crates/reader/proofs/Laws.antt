@@ -15,10 +15,10 @@ use Rattle.rules.specs.Text.Words.{byte_at, value_of, next_of, plain_at, number_
 use Rattle.rules.specs.Text.Shape.{kind_word, psi_at, key_of, key_at, line_shape, in_order}
 use Rattle.rules.specs.Text.Layout.{Tables, zeros, row_width}
 use Rattle.rules.specs.Text.Fill.{Filled, filled, Out, out, expression, kind_value, kind_next, add_var, Fields, fields, fill_ret, fill_param, fill_local, fill_products, add_row, fill_type, plain_line, expr_line, fill_set, fill_put_two, fill_put, fill_goto, fill_if, fill_ifimm, fill_test, fill_return, fill_label, one_more, fill_line}
-use Rattle.text.proofs.Laws.{Reads, value_most, next_most}
-use Rattle.shape.proofs.Laws.{kind_reads}
+use Rattle.text.proofs.Laws.{Reads, number_reads, plain_reads, var_reads, value_most, next_most}
+use Rattle.shape.proofs.Laws.{kind_reads, psi_reads}
 use Rattle.program.specs.Lines.{tables_of}
-use Rattle.reader.specs.Read.{Placed, Near, Worded, Fits, Within, left, Closed, Holds}
+use Rattle.reader.specs.Read.{Placed, Worded, Fits, Within, left, Closed, Holds}
 use Rattle.once.proofs.Keys.{none}
 use Rattle.std.specs.Result.{is_err}
 use Rattle.reader.proofs.Exprs.{Ends, expression_ends}
@@ -28,13 +28,34 @@ use Rattle.reader.proofs.Exprs.{Ends, expression_ends}
 pub next_in : (at : ℕ) {to least most : ℕ} {x r : Reading} → Reads (at + 1) to least most r → x ≡ r → next_of x ≤ max at to
 next_in at h q = omega (arith, next_most h, ap next_of q)
 
-pub near_word : {s : List ℕ} {at least most : ℕ} {x r : Reading} → Near s at → most ≤ 4294967295 → Reads (at + 1) (length s) least most r → x ≡ r
-    → (value_of x < 4294967296) × (next_of x ≤ 65536)
-near_word {at = at} n m h q = (omega (arith, value_most h, ap value_of q), omega (arith, next_in at h q))
+small : {from to least most : ℕ} {r : Reading} → most ≤ 4294967295 → Reads from to least most r → value_of r < 4294967296
+small m h = omega (arith, value_most h)
 
-pub worded : {s : List ℕ} {at least most value past : ℕ} {x r : Reading} → Reads (at + 1) (length s) least most r → x ≡ r
-    → (value ≡ value_of x) × (past ≡ next_of x + 1) → Worded s at (value_of r) (next_of r) value past
-worded {at = at} h q e = record { gives = e.0 ∙ ap value_of q; goes = e.1 ∙ ap (λ (z : Reading). next_of z + 1) q; near = omega (arith, next_in at h q, e.1) }
+-- each word is of 32 bits, and ends in the text or is wrong where it begins
+module _ (s : List ℕ) (at : ℕ) where
+  pub plain_small : value_of (plain_at s at) < 4294967296
+  plain_small = small (omega arith) (plain_reads s at)
+
+  pub plain_ends : next_of (plain_at s at) ≤ max at (length s)
+  plain_ends = next_in at (plain_reads s at) refl
+
+  pub number_small : value_of (number_at s at) < 4294967296
+  number_small = small (omega arith) (number_reads s at)
+
+  pub number_ends : next_of (number_at s at) ≤ max at (length s)
+  number_ends = next_in at (number_reads s at) refl
+
+  pub var_small : value_of (var_at s at) < 4294967296
+  var_small = small (omega arith) (var_reads s at)
+
+  pub var_ends : next_of (var_at s at) ≤ max at (length s)
+  var_ends = next_in at (var_reads s at) refl
+
+  pub psi_small : value_of (psi_at s at) < 4294967296
+  psi_small = small (omega arith) (psi_reads s at)
+
+  pub psi_ends : next_of (psi_at s at) ≤ max at (length s)
+  psi_ends = next_in at (psi_reads s at) refl
 
 module _ (s : List ℕ) (at : ℕ) where
   pub kind_near : {x : Reading} → Placed s at → x ≡ kind_word s at → next_of x ≤ 32768

@@ -2,7 +2,7 @@
 // A line with expressions is read at once, and looked at for its shape alone only if that fails; so is a label, and looked at only if it passes a limit.
 #![tactic(auto)]
 
-ghost use Rattle.std.specs.Prelude.{◌≡◌, Bool, true, false, ◌&&◌, List, ℕ, ◌+◌, ◌≤◌, ◌<◌, ltb, eqb, length};
+ghost use Rattle.std.specs.Prelude.{◌≡◌, Bool, true, false, ◌&&◌, List, ℕ, ◌+◌, ◌≤◌, ◌<◌, ltb, eqb, length, max};
 ghost use Rattle.rules.specs.When.{when};
 ghost use Rattle.rules.specs.Limits.{limits};
 ghost use Rattle.rules.specs.Text as texts;
@@ -40,54 +40,21 @@ struct Word {
 
 // ---- words
 
-// The place after the byte that follows what was read.
-fn past(r: Reading) -> usize
-    requires { words.next_of r ≤ 65536 }
-    ensures { result ≡ words.next_of r + 1 }
-{
-    next_of(r) + 1
-}
-
-fn word_of(r: Reading) -> Word
-    requires { (words.value_of r < 4294967296) × (words.next_of r ≤ 65536) }
-    ensures { (result.value ≡ words.value_of r) × (result.past ≡ words.next_of r + 1) }
+// What was read at the place `at`.
+fn word_of(s: &[u8], at: usize, r: Reading) -> Word
+    requires near { Near s.now at }
+    requires small { words.value_of r < 4294967296 }
+    requires ends { words.next_of r ≤ max at (length s.now) }
+    ensures { Worded s.now at (words.value_of r) (words.next_of r) result.value result.past }
 {
     Word {
         value: value_of(r) as u32,
-        past: past(r),
+        past: next_of(r) + 1,
     }
 }
 
-fn plain_word(s: &[u8], at: usize) -> Word
-    requires { Near s.now at }
-    ensures { Worded s.now at (words.value_of (words.plain_at s.now at)) (words.next_of (words.plain_at s.now at)) result.value result.past }
-{
-    word_of(plain_at(s, at))
-}
-
-fn number_word(s: &[u8], at: usize) -> Word
-    requires { Near s.now at }
-    ensures { Worded s.now at (words.value_of (words.number_at s.now at)) (words.next_of (words.number_at s.now at)) result.value result.past }
-{
-    word_of(number_at(s, at))
-}
-
-fn var_word(s: &[u8], at: usize) -> Word
-    requires { Near s.now at }
-    ensures { Worded s.now at (words.value_of (words.var_at s.now at)) (words.next_of (words.var_at s.now at)) result.value result.past }
-{
-    word_of(var_at(s, at))
-}
-
-fn psi_word(s: &[u8], at: usize) -> Word
-    requires { Near s.now at }
-    ensures { Worded s.now at (words.value_of (shapes.psi_at s.now at)) (words.next_of (shapes.psi_at s.now at)) result.value result.past }
-{
-    word_of(psi_at(s, at))
-}
-
 // A kind: its code.
-#[tactic(auto, using(crate::proofs::Laws::kind_bad, crate::proofs::Laws::kind_int))]
+#[tactic(auto, using(crate::proofs::Laws::kind_bad, crate::proofs::Laws::kind_int, crate::proofs::Laws::plain_small, crate::proofs::Laws::plain_ends))]
 fn kind_code(s: &[u8], at: usize) -> Word
     requires { Placed s.now at }
     ensures { Worded s.now at (fills.kind_value s.now (shapes.kind_word s.now at)) (fills.kind_next s.now (shapes.kind_word s.now at)) result.value result.past }
@@ -102,7 +69,7 @@ fn kind_code(s: &[u8], at: usize) -> Word
             past: n + 1,
         },
         Ok((_, n)) => {
-            let w = plain_word(s, n);
+            let w = word_of(s, n, plain_at(s, n));
             Word {
                 value: w.value + 2,
                 past: w.past,
@@ -144,13 +111,13 @@ fn fill_param(s: &[u8], at: usize, c: Count, vars: &mut [u32; 96]) -> Option<Cou
     add_var(c, k.value, 1, 0, vars)
 }
 
-#[tactic(auto, unfolding(rules::specs::Text::Fill::fill_local))]
+#[tactic(auto, using(crate::proofs::Laws::number_small, crate::proofs::Laws::number_ends), unfolding(rules::specs::Text::Fill::fill_local))]
 fn fill_local(s: &[u8], at: usize, c: Count, vars: &mut [u32; 96]) -> Option<Count>
     requires { Placed s.now at }
     ensures { (t : layout.Tables) → given result (layout.with_vars t vars.new) ≡ kept (fills.fill_local s.now at c (layout.with_vars t vars.old)) }
 {
     let k = kind_code(s, at);
-    let n = number_word(s, k.past);
+    let n = word_of(s, k.past, number_at(s, k.past));
     add_var(c, k.value, 2, n.value, vars)
 }
 
@@ -225,7 +192,7 @@ fn fill_products(
     fill_fields(s, r, total, at, rows)
 }
 
-#[tactic(auto, using(crate::proofs::Ways::type_full, crate::proofs::Ways::type_room, rules::specs::Text::Fill::fields, rules::specs::Text::Fill::filled))]
+#[tactic(auto, using(crate::proofs::Ways::type_full, crate::proofs::Ways::type_room, crate::proofs::Laws::psi_small, crate::proofs::Laws::psi_ends, rules::specs::Text::Fill::fields, rules::specs::Text::Fill::filled))]
 fn fill_type(s: &[u8], at: usize, c: Count, rows: &mut [u32; 17536]) -> Option<Count>
     requires { Placed s.now at }
     ensures { (t : layout.Tables) → given result (layout.with_rows t rows.new) ≡ kept (fills.fill_type s.now at c (layout.with_rows t rows.old)) }
@@ -233,7 +200,7 @@ fn fill_type(s: &[u8], at: usize, c: Count, rows: &mut [u32; 17536]) -> Option<C
     if Limits::ROWS <= c.rows {
         return None;
     }
-    let p = psi_word(s, at);
+    let p = word_of(s, at, psi_at(s, at));
     put_psi(rows, c.rows, p.value);
     let fields = fill_products(s, c.rows, c.fields, p.past, rows)?;
     Some(Count {
@@ -260,34 +227,34 @@ fn plain_line(c: Count, kind: u32, l: u32, v: u32, w: u32, body: &mut [u32; 2560
     })
 }
 
-#[tactic(auto, unfolding(rules::specs::Text::Fill::fill_goto))]
+#[tactic(auto, using(crate::proofs::Laws::plain_small, crate::proofs::Laws::plain_ends), unfolding(rules::specs::Text::Fill::fill_goto))]
 fn fill_goto(s: &[u8], at: usize, c: Count, body: &mut [u32; 2560]) -> Option<Count>
     requires { Placed s.now at }
     ensures { (t : layout.Tables) → given result (layout.with_body t body.new) ≡ kept (fills.one_more c (layout.with_body t body.old) (fills.fill_goto s.now at c (layout.with_body t body.old))) }
 {
-    let l = plain_word(s, at);
+    let l = word_of(s, at, plain_at(s, at));
     plain_line(c, 3, l.value, 0, 0, body)
 }
 
-#[tactic(auto, unfolding(rules::specs::Text::Fill::fill_ifimm))]
+#[tactic(auto, using(crate::proofs::Laws::plain_small, crate::proofs::Laws::plain_ends, crate::proofs::Laws::var_small, crate::proofs::Laws::var_ends), unfolding(rules::specs::Text::Fill::fill_ifimm))]
 fn fill_ifimm(s: &[u8], at: usize, c: Count, body: &mut [u32; 2560]) -> Option<Count>
     requires { Placed s.now at }
     ensures { (t : layout.Tables) → given result (layout.with_body t body.new) ≡ kept (fills.one_more c (layout.with_body t body.old) (fills.fill_ifimm s.now at c (layout.with_body t body.old))) }
 {
-    let l = plain_word(s, at);
-    let v = var_word(s, l.past);
+    let l = word_of(s, at, plain_at(s, at));
+    let v = word_of(s, l.past, var_at(s, l.past));
     plain_line(c, 5, l.value, v.value, 0, body)
 }
 
 // `iftag=`, `ifint=`
-#[tactic(auto, unfolding(rules::specs::Text::Fill::fill_test))]
+#[tactic(auto, using(crate::proofs::Laws::plain_small, crate::proofs::Laws::plain_ends, crate::proofs::Laws::var_small, crate::proofs::Laws::var_ends, crate::proofs::Laws::number_small, crate::proofs::Laws::number_ends), unfolding(rules::specs::Text::Fill::fill_test))]
 fn fill_test(kind: u32, s: &[u8], at: usize, c: Count, body: &mut [u32; 2560]) -> Option<Count>
     requires { Placed s.now at }
     ensures { (t : layout.Tables) → given result (layout.with_body t body.new) ≡ kept (fills.one_more c (layout.with_body t body.old) (fills.fill_test kind s.now at c (layout.with_body t body.old))) }
 {
-    let l = plain_word(s, at);
-    let v = var_word(s, l.past);
-    let w = number_word(s, v.past);
+    let l = word_of(s, at, plain_at(s, at));
+    let v = word_of(s, l.past, var_at(s, l.past));
+    let w = word_of(s, v.past, number_at(s, v.past));
     plain_line(c, kind, l.value, v.value, w.value, body)
 }
 
