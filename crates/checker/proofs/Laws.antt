@@ -1,14 +1,14 @@
 -- Checking, way by way: a program refused by its names, by a type or by its last line; a text refused as it is read, by its program, or not at all. Assumes nothing.
-use borrow.Author.Tests.{ne_eqb, eq-eqb}
-use Rattle.std.specs.Prelude.{◌+◌, ◌≡◌}
-use Rattle.rules.specs.Prelude.{ℕ, zero, suc, List, refl, sym, ap, ◌∙◌, subst, not, ltb, eqb, length}
+use Rattle.std.specs.Result.{is_err}
+use Rattle.std.specs.Prelude.{◌+◌, ◌≡◌, Result, Ok, Err}
+use Rattle.rules.specs.Prelude.{ℕ, zero, suc, Bool, List, refl, sym, ap, ◌∙◌, subst, not, ltb, eqb, length}
 use Rattle.rules.specs.declared.Answer.{Answer}
 use Rattle.rules.specs.declared.Count.{Count}
 use Rattle.rules.specs.declared.Verdict.{Verdict}
 use Rattle.rules.specs.declared.Verdict.TheVariants as C
 use Rattle.rules.specs.When.{One}
 use Rattle.rules.specs.Limits.{limits}
-use Rattle.rules.specs.Answers.{accepted, and_then, case_of}
+use Rattle.rules.specs.Answers.{accepted, and_then, outcome, case_of}
 use Rattle.rules.specs.Text.Layout.{Tables, nothing, zeros}
 use Rattle.rules.specs.Text.{TextOut, Lined, lined, and_line, line_at, lines_from, most_lines, read_text}
 use Rattle.rules.specs.View.{program}
@@ -17,44 +17,45 @@ use Rattle.rules.specs.Body.{ends}
 use Rattle.rules.specs.Check.{check, Checked, checked, verdict}
 use Rattle.rules.proofs.Laws.Tests.{by_when}
 use Rattle.rules.proofs.Laws.Accepts.{refused_tables, accepted_tables, verdict_plain}
+use Rattle.table.proofs.Passes.{then_no}
 use Rattle.program.specs.Lines.{tables_of}
 use Rattle.reader.specs.Read.{Holds, read_over, over_zeros}
 use Rattle.reader.proofs.Laws.{tables_are_lem}
 use Rattle.names.specs.Trees.{names_in}
+use Rattle.names.proofs.Laws.{accepts, refuses, outcome_on, outcome_no}
 use Rattle.body.specs.Lines.{types_in}
 use Rattle.body.specs.There.{check_is}
 use Rattle.checker.proofs.Named.{names_by}
 use Rattle.checker.specs.Says.{Says}
 
--- ---- a stage, and what comes after it
-
-stops : (a : Answer) (f : One → Answer) → (a.number ≡ 0 → ⊥) → and_then a f ≡ a
-stops a f n = rw (ne_eqb a.number 0 n)
-
-goes : (a : Answer) (f : One → Answer) → a.number ≡ 0 → and_then a f ≡ f tt
-goes a f z = rw (eq-eqb a.number 0 z)
-
 -- ---- a program: typing is asked first, and the names win
 
-module _ (t : Tables) (a n : Answer) (ea : a ≡ types_in t) (en : n ≡ names_in (not (eqb a.number 0)) (program t)) where
+-- whether an answer refuses
+told : (a : Answer) → is_err (outcome a) ≡ not (eqb a.number 0)
+told a = by_when (λ (r : Result Unit Answer). is_err r ≡ not (eqb a.number 0)) (eqb a.number 0) _ _ (λ q. rw q) (λ q. rw q)
+
+module _ (t : Tables) {b : Bool} {r : Result Unit Answer} (er : r ≡ outcome (types_in t)) (eb : b ≡ is_err r) where
   abbrev later : One → Answer
   later x = and_then (types_in t) (λ _. ends (program t))
 
-  named : names (program t) ≡ n
-  named = sym (names_by t a ea) ∙ sym en
+  from_names : check (program t) ≡ and_then (names_in b (program t)) later
+  from_names =
+      let q : b ≡ not (eqb (types_in t).number 0) = eb ∙ ap is_err er ∙ told (types_in t) in
+      let w : names (program t) ≡ names_in b (program t) = rw q (sym (names_by t (types_in t) refl)) in
+      sym (check_is t) ∙ ap (λ (x : Answer). and_then x later) w
 
-  pub by_names : (n.number ≡ 0 → ⊥) → n ≡ check (program t)
-  by_names h = sym (sym (check_is t) ∙ ap (λ (x : Answer). and_then x later) named ∙ stops n later h)
+  pub by_names : {a : Answer} → Err a ≡ outcome (names_in b (program t)) → Err a ≡ outcome (check (program t))
+  by_names e = outcome_no _ later e ∙ ap outcome (sym from_names)
 
-  module _ (z : n.number ≡ 0) where
-    on : check (program t) ≡ and_then a (λ _. ends (program t))
-    on = sym (check_is t) ∙ ap (λ (x : Answer). and_then x later) named ∙ goes n later z ∙ ap (λ (x : Answer). and_then x (λ _. ends (program t))) (sym ea)
+  module _ (z : Ok tt ≡ outcome (names_in b (program t))) where
+    on : check (program t) ≡ and_then (types_in t) (λ _. ends (program t))
+    on = from_names ∙ outcome_on _ later z
 
-    pub by_types : (a.number ≡ 0 → ⊥) → a ≡ check (program t)
-    by_types h = sym (on ∙ stops a (λ _. ends (program t)) h)
+    pub by_types : {a : Answer} → r ≡ Err a → Err a ≡ outcome (check (program t))
+    by_types e = outcome_no _ (λ _. ends (program t)) (sym e ∙ er) ∙ ap outcome (sym on)
 
-    pub by_ends : a.number ≡ 0 → (b : Answer) → b ≡ ends (program t) → b ≡ check (program t)
-    by_ends h b e = e ∙ sym (on ∙ goes a (λ _. ends (program t)) h)
+    pub by_ends : r ≡ Ok tt → {q : Result Unit Answer} → q ≡ outcome (ends (program t)) → q ≡ outcome (check (program t))
+    by_ends e w = w ∙ ap outcome (sym (on ∙ outcome_on _ _ (sym e ∙ er)))
 
 -- ---- a text that is refused leaves nothing
 
@@ -103,26 +104,43 @@ module _ (Z N R D L B : List ℕ) where
 
 -- ---- a text, read over tables that hold nothing
 
-module _ (s : List ℕ) (t : Tables) (e : t ≡ zeros) (a : Answer) (Z N R D L B : List ℕ) (h : Holds (read_over s t) a Z N R D L B) where
+-- what an answer that refuses is handed on as
+same : {a b : Answer} → Err a ≡ outcome b → (a ≡ b) × (a.number ≡ 0 → ⊥)
+same {a} {b} e =
+    let w = refuses b e in
+    let q : Err a ≡ Err b = e ∙ w.1 in
+    let s : a ≡ b = cc in
+    (s, subst (λ (x : Answer). x.number ≡ 0 → ⊥) (sym s) w.0)
+
+module _ (s : List ℕ) (t : Tables) (e : t ≡ zeros) {r : Result Unit Answer} {Z N R D L B : List ℕ} (h : Holds (read_over s t) r Z N R D L B) where
   fresh : read_over s t ≡ read_text s
   fresh = ap (read_over s) e ∙ over_zeros s
 
-  answered : a ≡ (read_text s).answer
-  answered = h.answer ∙ ap (λ (o : TextOut). o.answer) fresh
+  answered : r ≡ outcome (read_text s).answer
+  answered = h.answer ∙ ap (λ (o : TextOut). outcome o.answer) fresh
 
-  pub as_read : tables_of Z N R D L B ≡ (read_text s).tables
+  as_read : tables_of Z N R D L B ≡ (read_text s).tables
   as_read = tables_are_lem h ∙ ap (λ (o : TextOut). o.tables) fresh
 
   abbrev rest : One → Answer
   rest x = check (program (read_text s).tables)
 
-  pub by_reading : (a.number ≡ 0 → ⊥) → (checked s).verdict ≡ a
+  pub by_reading : {a : Answer} → r ≡ Err a → {v : Verdict} → v ≡ case_of a → Says (checked s) v Z N R D L B
   unfolding checked
-  by_reading n = ap (λ (x : Answer). and_then x rest) (sym answered) ∙ stops a rest n
+  by_reading {a} q {v} k =
+      let w = same (sym q ∙ answered) in
+      refused Z N R D L B s a v k
+      (sym (then_no (read_text s).answer rest (subst (λ (x : Answer). x.number ≡ 0 → ⊥) w.0 w.1)) ∙ sym w.0)
+      w.1
+      (as_read ∙ text_clear s (subst (λ (x : Answer). x.number ≡ 0 → ⊥) w.0 w.1))
 
-  pub as_cleared : (a.number ≡ 0 → ⊥) → tables_of Z N R D L B ≡ zeros
-  as_cleared n = as_read ∙ text_clear s (subst (λ (x : Answer). x.number ≡ 0 → ⊥) answered n)
+  module _ (q : r ≡ Ok tt) {p : Result Unit Answer} (ep : p ≡ outcome (check (program (tables_of Z N R D L B)))) where
+    judged : (checked s).verdict ≡ check (program (tables_of Z N R D L B))
+    unfolding checked
+    judged = outcome_on (read_text s).answer rest (sym q ∙ answered) ∙ sym (ap (λ (u : Tables). check (program u)) as_read)
 
-  pub by_program : a.number ≡ 0 → (b : Answer) → b ≡ check (program (tables_of Z N R D L B)) → (checked s).verdict ≡ b
-  unfolding checked
-  by_program z b q = ap (λ (x : Answer). and_then x rest) (sym answered) ∙ goes a rest z ∙ sym (q ∙ ap (λ (u : Tables). check (program u)) as_read)
+    pub by_program : {a : Answer} → p ≡ Err a → {v : Verdict} → v ≡ case_of a → {Z2 N2 R2 D2 L2 B2 : List ℕ} → tables_of Z2 N2 R2 D2 L2 B2 ≡ zeros → Says (checked s) v Z2 N2 R2 D2 L2 B2
+    by_program {a} y {v} k z = let w = same (sym y ∙ ep) in refused _ _ _ _ _ _ s a v k (judged ∙ sym w.0) w.1 z
+
+    pub by_neither : p ≡ Ok tt → Says (checked s) C.Accepted Z N R D L B
+    by_neither y = passed Z N R D L B s _ judged (accepts _ (sym y ∙ ep)) as_read

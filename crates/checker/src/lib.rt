@@ -2,7 +2,7 @@
 #![tactic(auto)]
 
 ghost use Rattle.std.specs.Prelude.{◌≡◌};
-ghost use Rattle.rules.specs.Answers.{case_of};
+ghost use Rattle.rules.specs.Answers.{outcome, case_of};
 ghost use Rattle.rules.specs.View.{program};
 ghost use Rattle.rules.specs.Check.{check as check_program, checked, verdict};
 ghost use Rattle.rules.specs.Text.Layout.{zeros};
@@ -12,7 +12,6 @@ ghost use Rattle.checker.specs.Says.{Says};
 use rules::{Answer, Verdict};
 
 // Answers 4 to 13 for the program in the tables. Typing comes before the names, and its answer is kept back: where it refuses nothing, every name in an expression exists, and the expressions are not walked for them.
-#[tactic(auto, using(crate::proofs::Laws::by_names, crate::proofs::Laws::by_types, crate::proofs::Laws::by_ends))]
 fn program_judged(
     size: &[u32; 6],
     nodes: &[u64; 4096],
@@ -20,17 +19,12 @@ fn program_judged(
     vars: &[u32; 96],
     labels: &[u64; 6208],
     lines: &[u32; 2560],
-) -> Answer
-    ensures { result ≡ check_program (program (tables_of size.now nodes.now rows.now vars.now labels.now lines.now)) }
+) -> Result<(), Answer>
+    ensures { result ≡ outcome (check_program (program (tables_of size.now nodes.now rows.now vars.now labels.now lines.now))) }
 {
     let typed = body::typed(size, rows, vars, labels, nodes, lines);
-    let named = names::named(size, nodes, rows, vars, labels, lines, typed.number != 0);
-    if named.number != 0 {
-        return named;
-    }
-    if typed.number != 0 {
-        return typed;
-    }
+    names::named(size, nodes, rows, vars, labels, lines, typed.is_err())?;
+    typed?;
     body::ended(size, lines)
 }
 
@@ -47,13 +41,11 @@ fn judged(
     requires { tables_of size.old nodes.old rows.old vars.old labels.old lines.old ≡ zeros }
     ensures { Says (checked s.now) result size.new nodes.new rows.new vars.new labels.new lines.new }
 {
-    let a = reader::read(s, size, nodes, rows, vars, labels, lines);
-    // what refuses the text has cleared the tables
-    if a.number != 0 {
+    if let Err(a) = reader::read(s, size, nodes, rows, vars, labels, lines) {
+        // what refuses the text has cleared the tables
         return answers::case_of(a);
     }
-    let b = program_judged(size, nodes, rows, vars, labels, lines);
-    if b.number != 0 {
+    if let Err(b) = program_judged(size, nodes, rows, vars, labels, lines) {
         program::clear(size, nodes, rows, vars, labels, lines);
         return answers::case_of(b);
     }

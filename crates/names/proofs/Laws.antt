@@ -84,14 +84,14 @@ said_is zero line = refl
 said_is (suc n) line = rw (ne_eqb (suc n) 0 (λ q. omega (lin, q)))
 
 -- an answer, by whether the code goes on
-accepts : (a : Answer) → Ok tt ≡ outcome a → a.number ≡ 0
+pub accepts : (a : Answer) → Ok tt ≡ outcome a → a.number ≡ 0
 accepts a e = by (passes a) refl
   where
     by : (t : Bool) → passes a ≡ t → a.number ≡ 0
     by true q = eqb-true a.number 0 q
     by false q = let z = rw q at e in absurd (grind lin)
 
-refuses : (a : Answer) {b : Answer} → Err b ≡ outcome a → (a.number ≡ 0 → ⊥) × (outcome a ≡ Err a)
+pub refuses : (a : Answer) {b : Answer} → Err b ≡ outcome a → (a.number ≡ 0 → ⊥) × (outcome a ≡ Err a)
 refuses a {b} e = by (passes a) refl
   where
     by : (t : Bool) → passes a ≡ t → (a.number ≡ 0 → ⊥) × (outcome a ≡ Err a)
@@ -112,10 +112,10 @@ module _ {A : Type 0} (f : A → ℕ) (l : List A) (line i n : ℕ) (en : n ≡ 
 -- ---- part by part
 
 -- a part that refuses nothing leaves the answer to the next
-outcome_on : (a : Answer) (later : One → Answer) → Ok tt ≡ outcome a → and_then a later ≡ later tt
+pub outcome_on : (a : Answer) (later : One → Answer) → Ok tt ≡ outcome a → and_then a later ≡ later tt
 outcome_on a later e = then_on a later (accepts a e)
 
-outcome_no : (a : Answer) (later : One → Answer) {b : Answer} → Err b ≡ outcome a → Err b ≡ outcome (and_then a later)
+pub outcome_no : (a : Answer) (later : One → Answer) {b : Answer} → Err b ≡ outcome a → Err b ≡ outcome (and_then a later)
 outcome_no a later e = e ∙ ap outcome (then_no a later (refuses a e).0)
 
 -- the answers of the parts, one after the other: `ret`, the rows, the variables, the body
