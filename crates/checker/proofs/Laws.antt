@@ -54,7 +54,7 @@ module _ (t : Tables) {b : Bool} {r : Result Unit Answer} (er : r ≡ outcome (t
     pub by_types : {a : Answer} → r ≡ Err a → Err a ≡ outcome (check (program t))
     by_types e = outcome_no _ (λ _. ends (program t)) (sym e ∙ er) ∙ ap outcome (sym on)
 
-    pub by_ends : r ≡ Ok tt → {q : Result Unit Answer} → q ≡ outcome (ends (program t)) → q ≡ outcome (check (program t))
+    pub by_ends : {u : Unit {0}} → r ≡ Ok u → {q : Result Unit Answer} → q ≡ outcome (ends (program t)) → q ≡ outcome (check (program t))
     by_ends e w = w ∙ ap outcome (sym (on ∙ outcome_on _ _ (sym e ∙ er)))
 
 -- ---- a text that is refused leaves nothing

@@ -28,17 +28,19 @@ use Rattle.runner.specs.Ran.{ended}
 
 -- ---- the store
 
-pub store_refused : (P : Prog) (s : List ℕ) (a : Answer) (v : Verdict) (x : Result) → a ≡ (read_store P s).answer → (a.number ≡ 0 → ⊥) → v ≡ case_of a → x ≡ refused (answer_of v) → x ≡ run_store P (read_store P s)
-store_refused P s a v x e n h r =
-    let told : answer_of v ≡ (read_store P s).answer = ap answer_of (h ∙ ap case_of e) ∙ told_store P s in
-    let no : ((read_store P s).answer.number ≡ 0 → ⊥) = subst (λ (b : Answer). b.number ≡ 0 → ⊥) e n in
-    rw (ne_eqb _ _ no) (r ∙ ap refused told)
+pub store_refused : (P : Prog) (s : List ℕ) (a : Answer) (v : Verdict) (x : Result) → Err a ≡ outcome (read_store P s).answer → v ≡ case_of a → x ≡ refused (answer_of v) → x ≡ run_store P (read_store P s)
+store_refused P s a v x e h r =
+    let w = refuses (read_store P s).answer e in
+    let q : Err a ≡ Err (read_store P s).answer = e ∙ w.1 in
+    let same : a ≡ (read_store P s).answer = cc in
+    let told : answer_of v ≡ (read_store P s).answer = ap answer_of (h ∙ ap case_of same) ∙ told_store P s in
+    rw (ne_eqb _ _ w.0) (r ∙ ap refused told)
 
-pub store_ran : (P : Prog) (s : List ℕ) (a : Answer) (Z H C W : List ℕ) → S.Says (read_store P s) a Z H C W → a.number ≡ 0 → (x : Result) (C' W' : List ℕ) (i n v : ℕ)
+pub store_ran : (P : Prog) (s : List ℕ) (a : R.Result Unit Answer) (Z H C W : List ℕ) → S.Says (read_store P s) a Z H C W → a ≡ Ok tt → (x : Result) (C' W' : List ℕ) (i n v : ℕ)
     → parts Z H C' W' i n v ≡ run_within P (parts Z H C W 0 0 0) → x ≡ ended n (datum_code v) → x ≡ run_store P (read_store P s)
 unfolding run_within
 store_ran P s a Z H C W h z x C' W' i n v e r =
-    let ok : (read_store P s).answer.number ≡ 0 = ap (λ (b : Answer). b.number) (sym h.answer) ∙ z in
+    let ok : (read_store P s).answer.number ≡ 0 = accepts (read_store P s).answer (sym z ∙ h.answer) in
     let none : get_or Z 0 0 - 0 ≡ get_or Z 0 0 = omega lin in
     rw (eq-eqb _ _ ok, sym h.size, sym h.heads, sym h.cells, sym h.vals) (r ∙ ap result_of (e ∙ ap (λ (k : ℕ). run_t P k (parts Z H C W 0 0 0)) none))
 

@@ -37,9 +37,10 @@ fn refuse(v: Verdict) -> Ran
 fn state_of(value: Given) -> State
     ensures { result ≡ state_of value }
 {
-    match value {
-        None => State::Running,
-        Some(_) => State::Done,
+    if value.is_some() {
+        State::Done
+    } else {
+        State::Running
     }
 }
 
@@ -47,12 +48,11 @@ fn outcome(steps: u32, code: u64) -> Ran
     ensures { told result ≡ ended steps (datum_code code) }
 {
     let value = entry::datum_of(code);
-    let state = state_of(value);
     Ran {
         answer: Verdict::Accepted,
-        state: state,
-        steps: steps,
-        value: value,
+        state: state_of(value),
+        steps,
+        value,
     }
 }
 
@@ -73,10 +73,9 @@ fn run_store(
     let mut heads = [0u32; 768];
     let mut cells = [0u64; 4352];
     let mut vals = [0u64; 32];
-    let a = store::read(
+    if let Err(a) = store::read(
         s, size, rows, vars, &mut store, &mut heads, &mut cells, &mut vals,
-    );
-    if a.number != 0 {
+    ) {
         return refuse(answers::case_of(a));
     }
     let m = machine::run(

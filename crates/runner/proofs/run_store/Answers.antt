@@ -7,4 +7,4 @@ use Rattle.runner.proofs.run_store.Goals as goal
 pub returns : goal.returns
 returns c =
     let A = c.args in
-    store_ran (program (tables_of A.size.now A.nodes.now A.rows.now A.vars.now A.labels.now A.body.now)) A.s.now _ _ _ _ _ (c.read-a.ensures A.nodes.now A.labels.now A.body.now) c.if-a-ne0.false _ _ _ _ _ _ (c.run-m.ensures A.rows.now A.vars.now).1 c.outcome.ensures
+    store_ran (program (tables_of A.size.now A.nodes.now A.rows.now A.vars.now A.labels.now A.body.now)) A.s.now _ _ _ _ _ (c.read.ensures A.nodes.now A.labels.now A.body.now) c.in_default.is _ _ _ _ _ _ (c.run-m.ensures A.rows.now A.vars.now).1 c.outcome.ensures
