@@ -194,18 +194,13 @@ fn walk(
         return gives(None, at);
     }
     let node = program::form_of(program::operation(nodes, at));
+    let a = program::argument(nodes, at);
     match node {
-        Form::Absent | Form::Lit | Form::Var => {
-            let a = program::argument(nodes, at);
-            gives(leaf(size, vals, node, a), at + 1)
-        }
+        Form::Absent | Form::Lit | Form::Var => gives(leaf(size, vals, node, a), at + 1),
         Form::Fetch | Form::Int | Form::Val => {
             let x = operand(size, nodes, vals, depth - 1, at + 1, store, heads, cells);
-            let a = program::argument(nodes, at);
-            gives(
-                one_operand(size, store, heads, cells, node, a, x.given),
-                x.next,
-            )
+            let g = one_operand(size, store, heads, cells, node, a, x.given);
+            gives(g, x.next)
         }
         Form::Step => {
             let x = operand(size, nodes, vals, depth - 1, at + 1, store, heads, cells);

@@ -35,8 +35,8 @@ walk-returns-in-Fetch t c R D =
     let w = is_within _ _ c.is_within.ensures (ap not c.if-not-is_within.false) in
     let x = c.operand-x.ensures R D in
     c.gives-in-Fetch.ensures
-    ∙ ends_one (eval _ _ _) gave _ _ _ (form _ _ _) (folds _ _ _) _ _ _ w.0 w.1 c.operation.ensures c.argument-a-in-Fetch.ensures (ap arity c.form_of-node.ensures) _ _ _ _ n
-    (tree_of_lem _ _ _ _ _ _ _ x) (after_of_lem _ _ _ _ _ _ _ x) (by_form _ _ _ _ _ _ _ c.form_of-node.ensures (c.one_operand.ensures R _ _))
+    ∙ ends_one (eval _ _ _) gave _ _ _ (form _ _ _) (folds _ _ _) _ _ _ w.0 w.1 c.operation.ensures c.argument-a.ensures (ap arity c.form_of-node.ensures) _ _ _ _ n
+    (tree_of_lem _ _ _ _ _ _ _ x) (after_of_lem _ _ _ _ _ _ _ x) (by_form _ _ _ _ _ _ _ c.form_of-node.ensures (c.one_operand-g.ensures R _ _))
 
 pub walk-returns-in-Step : goal.walk-returns-in-Step
 unfolding gave_at eval form
