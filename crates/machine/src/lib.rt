@@ -19,6 +19,7 @@ pub struct Machine<'a> {
 }
 
 // The machine is lent, and a step alters it where it stands.
+// Kept as it is: a public function's signature, with its lifetimes by name.
 pub fn step<'s, 'a, 'z, 'n, 'l, 'b, 'o, 'h>(
     m: &'s mut Machine<'a>,
     size: &'z [u32; 6],
