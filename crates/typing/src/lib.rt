@@ -6,7 +6,7 @@ ghost use Rattle.std.specs.Prelude.{◌≡◌, List, ◌/◌, ◌%◌, ◌<◌, 
 ghost use Rattle.rules.specs.Numbers.{num};
 ghost use Rattle.rules.specs.Program.{Rows, Var, entry};
 ghost use Rattle.rules.specs.View.{rows_from, vars_from, form_of};
-ghost use Rattle.rules.specs.Typing.{arith_tag, suits_tag, val_of, immediate, int_of, lone, spot, spot_of, addr_at, addr_spot, address_of, ty_var, ty_arith, ty_val, ty_int, ty_fetch, ty_step};
+ghost use Rattle.rules.specs.Typing.{arith_tag, suits_tag, val_of, immediate, int_of, lone, spot, addr_at, addr_spot, address_of, ty_var, ty_arith, ty_val, ty_int, ty_fetch, ty_step};
 ghost use Rattle.program.specs.Nodes.{arity};
 ghost use Rattle.coded.specs.Coded.{env_of};
 ghost use Rattle.typing.specs.Walk.{tag_only, form, found, found_at};
@@ -143,13 +143,9 @@ fn is_lone(psi: Psi, p: usize) -> bool
 fn addr_at(size: &[u32; 6], rows: &[u32; 17536], r: usize, o: Num, t: Num, m: Num) -> Addr
     ensures { result ≡ addr_at (rows_from size.now rows.now) r o t m }
 {
-    let Some(tag) = number::index_in(t, program::prods_of(size, rows, r)) else {
-        return Err(8);
-    };
+    let tag = number::index_in(t, program::prods_of(size, rows, r)).ok_or(8u32)?;
     // Over whole numbers. Here alone an amount is added to an offset.
-    let Some(k) = number::sum_in(o, m, program::fields_of(size, rows, r, tag)) else {
-        return Err(8);
-    };
+    let k = number::sum_in(o, m, program::fields_of(size, rows, r, tag)).ok_or(8u32)?;
     Ok((tag, k))
 }
 
@@ -163,44 +159,8 @@ fn spot_addr(size: &[u32; 6], rows: &[u32; 17536], r: usize, o: Num, t: Num, m: 
     addr_at(size, rows, r, o, t, n)
 }
 
-// B is `box`; whether the row is a lone one plays no part.
-fn block_addr(
-    size: &[u32; 6],
-    rows: &[u32; 17536],
-    r: usize,
-    only: bool,
-    o: Offset,
-    t: Tag,
-    m: Tag,
-) -> Addr
-    ensures { result ≡ addr_spot (rows_from size.now rows.now) r (spot_of (Boxed.Block) o t only) m }
-{
-    let (Offset::Known(n), Tag::Known(k)) = (o, t) else {
-        return Err(7);
-    };
-    spot_addr(size, rows, r, n, k, m)
-}
-
-// B is `any`.
-fn either_addr(
-    size: &[u32; 6],
-    rows: &[u32; 17536],
-    r: usize,
-    only: bool,
-    o: Offset,
-    t: Tag,
-    m: Tag,
-) -> Addr
-    ensures { result ≡ addr_spot (rows_from size.now rows.now) r (spot_of (Boxed.Either) o t only) m }
-{
-    if matches!(t, Tag::Unknown) && entry::zero_offset(o) && only {
-        spot_addr(size, rows, r, Num { n: 0 }, Num { n: 0 }, m)
-    } else {
-        Err(7)
-    }
-}
-
 // The tag and the offset that the entry e of row r addresses, m added to the offset.
+// B is `box`, with both known, and then it plays no part whether the row is a lone one; or B is `any` in a lone row, taken as offset 0, tag 0.
 pub fn address_of(size: &[u32; 6], rows: &[u32; 17536], r: usize, e: Entry, m: Tag) -> Addr
     ensures { result ≡ address_of (rows_from size.now rows.now) r e m }
 {
@@ -208,10 +168,12 @@ pub fn address_of(size: &[u32; 6], rows: &[u32; 17536], r: usize, e: Entry, m: T
         program::psi_of(size, rows, r),
         program::prods_of(size, rows, r),
     );
-    match e.boxed {
-        Boxed::Either => either_addr(size, rows, r, only, e.offset, e.tag, m),
-        Boxed::Block => block_addr(size, rows, r, only, e.offset, e.tag, m),
-        Boxed::Imm => Err(7),
+    match (e.boxed, e.offset, e.tag) {
+        (Boxed::Block, Offset::Known(o), Tag::Known(t)) => spot_addr(size, rows, r, o, t, m),
+        (Boxed::Either, o, Tag::Unknown) if entry::zero_offset(o) && only => {
+            spot_addr(size, rows, r, Num { n: 0 }, Num { n: 0 }, m)
+        }
+        _ => Err(7),
     }
 }
 
