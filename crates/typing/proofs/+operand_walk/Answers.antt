@@ -1,6 +1,6 @@
 -- A node by what stands there: nothing, a leaf, or a form whose operands were judged before it.
 use Rattle.std.specs.Prelude.{Err}
-use Rattle.std.proofs.Common.{◌≡◌, ◌∙◌, rules, refl, sym, ap, arith, not}
+use Rattle.std.proofs.Common.{ℕ, ◌≡◌, ◌∙◌, rules, refl, sym, ap, arith, not}
 use Rattle.rules.specs.View.{form_of}
 use Rattle.rules.specs.Typing.{type}
 use Rattle.program.specs.Nodes.{arity}
@@ -9,6 +9,9 @@ use Rattle.typing.specs.Walk.{form, found, found_at}
 use Rattle.typing.proofs.Laws.{folds, of_form, of_step, of_calc, tree_of_lem, after_of_lem}
 use Rattle.typing.proofs.+operand_walk.Goals as goal
 use Rattle.typing.proofs.+operand_walk.Goals.{walk-in-Absent, walk-in_default}
+
+pub operand-leaf_at-j-requires : goal.operand-leaf_at-j-requires
+operand-leaf_at-j-requires t c = (leaf_there _ _ _ c.is_leaf.ensures c.if-is_leaf.true).2
 
 pub operand-overflow_add-at : goal.operand-overflow_add-at
 operand-overflow_add-at t c = omega (arith, (leaf_there _ _ _ c.is_leaf.ensures c.if-is_leaf.true).1)
@@ -26,7 +29,7 @@ unfolding found_at type
 walk-returns-then-matches t c =
     let there = is_within c.args.depth c.args.at c.is_within.ensures (ap not c.if-not-is_within.false) in
     let none : arity (form_of c.operation.result) ≡ 0 = rw (sym c.form_of-what.ensures) (search rules) in
-    c.gives-then-matches.ensures ∙ ends_leaf (type _ _ _) found _ _ _ (form _ _ _) (folds _ _ _) _ _ _ there.0 there.1 c.operation.ensures c.argument-a.ensures refl _ _ _ none (of_form _ _ _ _ _ _ c.form_of-what.ensures (c.leaf.ensures _))
+    c.gives-then-matches.ensures ∙ ends_leaf (type _ _ _) found _ _ _ (form _ _ _) (folds _ _ _) _ _ _ there.0 there.1 refl refl refl _ _ _ (ap (λ (o : ℕ). arity (form_of o)) (sym c.operation.ensures) ∙ none) (c.leaf_at.ensures _)
 
 pub walk-returns-in-Calc : goal.walk-returns-in-Calc
 unfolding found_at type
@@ -52,4 +55,4 @@ walk-returns-in_default-what t c =
     let there = is_within c.args.depth c.args.at c.is_within.ensures (ap not c.if-not-is_within.false) in
     let x = c.operand-x.ensures in
     let one : arity (form_of c.operation.result) ≡ 1 = rw (sym c.form_of-what.ensures) (search rules) in
-    c.gives-in_default-what.ensures ∙ ends_one (type _ _ _) found _ _ _ (form _ _ _) (folds _ _ _) _ _ _ there.0 there.1 c.operation.ensures c.argument-a-in_default-what.ensures refl _ _ _ _ one (tree_of_lem _ _ _ _ _ _ _ x) (after_of_lem _ _ _ _ _ _ _ x) (of_form _ _ _ _ _ _ c.form_of-what.ensures (c.one_operand.ensures _ _))
+    c.gives-in_default-what.ensures ∙ ends_one (type _ _ _) found _ _ _ (form _ _ _) (folds _ _ _) _ _ _ there.0 there.1 c.operation.ensures c.argument-a.ensures refl _ _ _ _ one (tree_of_lem _ _ _ _ _ _ _ x) (after_of_lem _ _ _ _ _ _ _ x) (of_form _ _ _ _ _ _ c.form_of-what.ensures (c.one_operand.ensures _ _))
