@@ -22,7 +22,7 @@ use Rattle.program.specs.Lines.{tables_of}
 use Rattle.reader.specs.Read.{Holds, read_over, over_zeros}
 use Rattle.reader.proofs.Laws.{tables_are_lem}
 use Rattle.names.specs.Trees.{names_in}
-use Rattle.names.proofs.Laws.{accepts, refuses, outcome_on, outcome_no}
+use Rattle.table.proofs.Passes.{accepts, refuses, outcome_on, outcome_no}
 use Rattle.body.specs.Lines.{types_in}
 use Rattle.body.specs.There.{check_is}
 use Rattle.checker.proofs.Named.{names_by}

@@ -22,7 +22,7 @@ use Rattle.rules.specs.Program.{Prog, Var, Expr, Stmt, bad_s, set_s, put_s, if_s
 use Rattle.rules.specs.View.{vars_from, labels_from, label_from, entry_from, Walked, walked, form_of, tree_at, way_of, tree_of, with_one, with_two, stmt_of, stmt_from, body_from}
 use Rattle.rules.specs.Names.{expr_there, fields_there, products_there, entry_suits, entries_suit, label_suits, name_kind, name_row, name_var}
 use Rattle.rules.proofs.Laws.Lists.{tab_length}
-use Rattle.table.proofs.Passes.{left_more, left_none, then_on, then_no, first_append, lines_done, lines_on, lines_no}
+use Rattle.table.proofs.Passes.{left_more, left_none, accepts, refuses, outcome_on, outcome_no, first_append, lines_done, lines_on, lines_no}
 use Rattle.program.specs.declared.Stored.{Stored}
 use Rattle.program.specs.Lines.{stored_at}
 use Rattle.program.proofs.Laws.{vars_small, label_in, label_out, line_in_lem, line_view}
@@ -83,21 +83,6 @@ said_is : (n line : ℕ) → on_line line (passed n) ≡ outcome (answer n line)
 said_is zero line = refl
 said_is (suc n) line = rw (ne_eqb (suc n) 0 (λ q. omega (lin, q)))
 
--- an answer, by whether the code goes on
-pub accepts : (a : Answer) → Ok tt ≡ outcome a → a.number ≡ 0
-accepts a e = by (passes a) refl
-  where
-    by : (t : Bool) → passes a ≡ t → a.number ≡ 0
-    by true q = eqb-true a.number 0 q
-    by false q = let z = rw q at e in absurd (grind lin)
-
-pub refuses : (a : Answer) {b : Answer} → Err b ≡ outcome a → (a.number ≡ 0 → ⊥) × (outcome a ≡ Err a)
-refuses a {b} e = by (passes a) refl
-  where
-    by : (t : Bool) → passes a ≡ t → (a.number ≡ 0 → ⊥) × (outcome a ≡ Err a)
-    by true q = let z = rw q at e in absurd (grind lin)
-    by false q = (eqb-false a.number 0 q, rw q)
-
 module _ {A : Type 0} (f : A → ℕ) (l : List A) (line i n : ℕ) (en : n ≡ length l) where
   pub lines_end : n ≤ i → Ok tt ≡ outcome (first (line + i) (map f (drop i l)))
   lines_end h = ap outcome (lines_done f l line i n en h)
@@ -110,13 +95,6 @@ module _ {A : Type 0} (f : A → ℕ) (l : List A) (line i n : ℕ) (en : n ≡ 
     line_no e = let w = e ∙ said_is _ _ in w ∙ ap outcome (lines_no f l line i n en d _ h refl (refuses _ w).0)
 
 -- ---- part by part
-
--- a part that refuses nothing leaves the answer to the next
-pub outcome_on : (a : Answer) (later : One → Answer) → Ok tt ≡ outcome a → and_then a later ≡ later tt
-outcome_on a later e = then_on a later (accepts a e)
-
-pub outcome_no : (a : Answer) (later : One → Answer) {b : Answer} → Err b ≡ outcome a → Err b ≡ outcome (and_then a later)
-outcome_no a later e = e ∙ ap outcome (then_no a later (refuses a e).0)
 
 -- the answers of the parts, one after the other: `ret`, the rows, the variables, the body
 module _ (trees : Bool) (P : Prog) where

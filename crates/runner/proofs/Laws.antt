@@ -5,13 +5,14 @@ use lib.ListN.{take-append-drop}
 use lib.Seq.{take_all}
 use borrow.Table.Elements.{length_app}
 use lib.Seq.{length-take-le}
-use Rattle.std.specs.Prelude.{◌-◌, ◌≤◌, ◌∷◌, ◌≡◌}
+use Rattle.std.specs.Prelude.{◌-◌, ◌≤◌, ◌∷◌, ◌≡◌, Ok, Err}
+use Rattle.std.specs.Prelude as Std
 use Rattle.rules.specs.Prelude.{ℕ, suc, Bool, true, false, List, [], sym, ap, subst, ◌∙◌, eqb, length, get_or, take, drop}
 use Rattle.rules.specs.declared.Answer.{Answer}
 use Rattle.rules.specs.declared.Verdict.{Verdict}
 use Rattle.rules.specs.When.{when}
 use Rattle.rules.specs.Bytes.{bytes}
-use Rattle.rules.specs.Answers.{answer_of, case_of}
+use Rattle.rules.specs.Answers.{outcome, answer_of, case_of}
 use Rattle.rules.specs.Text.Words.{agreed}
 use Rattle.rules.specs.Program.{Prog}
 use Rattle.rules.specs.View.{program}
@@ -21,6 +22,7 @@ use Rattle.rules.specs.Store.{read_store}
 use Rattle.rules.specs.Run.{Result, refused, result_of, run_store, run_checked, glue_bytes}
 use Rattle.rules.proofs.Laws.Told.{told_verdict, told_store}
 use Rattle.program.specs.Lines.{tables_of}
+use Rattle.table.proofs.Passes.{accepts, refuses}
 use Rattle.checker.specs.Says as C
 use Rattle.store.specs.Says as S
 use Rattle.moves.specs.Moves.{parts}
@@ -36,7 +38,7 @@ store_refused P s a v x e h r =
     let told : answer_of v ≡ (read_store P s).answer = ap answer_of (h ∙ ap case_of same) ∙ told_store P s in
     rw (ne_eqb _ _ w.0) (r ∙ ap refused told)
 
-pub store_ran : (P : Prog) (s : List ℕ) (a : R.Result Unit Answer) (Z H C W : List ℕ) → S.Says (read_store P s) a Z H C W → a ≡ Ok tt → (x : Result) (C' W' : List ℕ) (i n v : ℕ)
+pub store_ran : (P : Prog) (s : List ℕ) (a : Std.Result Unit Answer) (Z H C W : List ℕ) → S.Says (read_store P s) a Z H C W → a ≡ Ok tt → (x : Result) (C' W' : List ℕ) (i n v : ℕ)
     → parts Z H C' W' i n v ≡ run_within P (parts Z H C W 0 0 0) → x ≡ ended n (datum_code v) → x ≡ run_store P (read_store P s)
 unfolding run_within
 store_ran P s a Z H C W h z x C' W' i n v e r =

@@ -3,12 +3,12 @@ use native.Mathlib.Omega.{arith as lin}
 use native.Mathlib.Numerals.{add-one}
 use lib.ListN.{drop_of_length-le}
 use lib.Seq.{drop-cons}
-use borrow.Author.Tests.{ne_eqb}
-use Rattle.std.specs.Prelude.{◌+◌, ◌<◌, ◌≤◌, ◌&&◌, ◌∷◌, ◌++◌, ◌≡◌}
+use borrow.Author.Tests.{ne_eqb, eqb-true, eqb-false}
+use Rattle.std.specs.Prelude.{◌+◌, ◌<◌, ◌≤◌, ◌&&◌, ◌∷◌, ◌++◌, ◌≡◌, Ok, Err}
 use Rattle.rules.specs.Prelude.{ℕ, Bool, true, false, List, [], map, refl, sym, ap, ◌∙◌, eqb, length, get_or, drop}
 use Rattle.rules.specs.declared.Answer.{Answer}
 use Rattle.rules.specs.When.{One}
-use Rattle.rules.specs.Answers.{answer, accepted, and_then, first}
+use Rattle.rules.specs.Answers.{answer, accepted, passes, and_then, outcome, first}
 
 -- ---- what a loop over n things has left of their list: one more, or nothing
 
@@ -59,3 +59,27 @@ then_on a later z = rw z
 
 pub then_no : (a : Answer) (later : One → Answer) → (a.number ≡ 0 → ⊥) → a ≡ and_then a later
 then_no a later z = rw (ne_eqb a.number 0 z)
+
+-- ---- an answer as code hands it on
+
+-- an answer, by whether the code goes on
+pub accepts : (a : Answer) → Ok tt ≡ outcome a → a.number ≡ 0
+accepts a e = by (passes a) refl
+  where
+    by : (t : Bool) → passes a ≡ t → a.number ≡ 0
+    by true q = eqb-true a.number 0 q
+    by false q = let z = rw q at e in absurd (grind lin)
+
+pub refuses : (a : Answer) {b : Answer} → Err b ≡ outcome a → (a.number ≡ 0 → ⊥) × (outcome a ≡ Err a)
+refuses a {b} e = by (passes a) refl
+  where
+    by : (t : Bool) → passes a ≡ t → (a.number ≡ 0 → ⊥) × (outcome a ≡ Err a)
+    by true q = let z = rw q at e in absurd (grind lin)
+    by false q = (eqb-false a.number 0 q, rw q)
+
+-- a part that refuses nothing leaves the answer to the next
+pub outcome_on : (a : Answer) (later : One → Answer) → Ok tt ≡ outcome a → and_then a later ≡ later tt
+outcome_on a later e = then_on a later (accepts a e)
+
+pub outcome_no : (a : Answer) (later : One → Answer) {b : Answer} → Err b ≡ outcome a → Err b ≡ outcome (and_then a later)
+outcome_no a later e = e ∙ ap outcome (then_no a later (refuses a e).0)

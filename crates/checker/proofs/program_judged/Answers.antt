@@ -17,4 +17,4 @@ returns-in_err-typed c =
     rw (p.1, p.2) (by_types _ c.typed-typed.ensures c.is_err.ensures.value (sym c.in_ok-named.was ∙ c.named.ensures) c.in_err-typed.was)
 
 pub returns : goal.returns
-returns c = by_ends _ c.typed-typed.ensures c.is_err.ensures.value (sym c.in_ok-named.was ∙ c.named.ensures) c.in_ok-typed.was c.ended.ensures
+returns c = by_ends _ c.typed-typed.ensures c.is_err.ensures.value (sym c.in_ok-named.was ∙ c.named.ensures) c.in_ok-typed.was (c.ended.ensures c.args.rows.now c.args.vars.now c.args.labels.now c.args.nodes.now)
