@@ -2,7 +2,7 @@
 -- A premise that begins with `Says`, `Steps`, `Runs` or `told` is the contract of the function that is named above it, as its crate states it;
 -- what follows holds of every result and every table that the contract allows. That a function returns, and reads nothing outside a table, is part of its being proved.
 -- docs/PROMISES.md says where each name is defined. Assumes nothing.
-use Rattle.std.specs.Prelude.{◌-◌, ◌≡◌, ◌↔◌}
+use Rattle.std.specs.Prelude.{◌-◌, ◌≡◌, ◌↔◌, Err}
 use Rattle.rules.specs.Prelude.{ℕ, List, [], sym, ap, subst, ◌∙◌, get_or}
 use Rattle.rules.specs.declared.Answer.{Answer}
 use Rattle.rules.specs.declared.Verdict.{Verdict}
@@ -25,6 +25,7 @@ use Rattle.rules.proofs.Laws.Accepts.{read_as, refused_tables, verdict_plain}
 use Rattle.rules.proofs.Laws.Told.{cases_apart}
 use Rattle.rules.proofs.Exactly.Derivable.{text_exactly}
 use Rattle.rules.proofs.Sound.StepTables.{Roomy}
+use Rattle.table.proofs.Passes.{refuses}
 use Rattle.program.specs.Lines.{tables_of}
 use Rattle.checker.specs.Says as C
 use Rattle.checker.specs.Verdicts.{said}
@@ -45,7 +46,7 @@ pub record AnyTextIsAnswered : Type 0 where
   -- checker::check
   pub refused_zero : (s : List ℕ) (v : Verdict) (Z N R D L B : List ℕ) → C.Says (checked s) v Z N R D L B → (v ≡ K.Accepted → ⊥) → tables_of Z N R D L B ≡ zeros
   -- store::read. The program's tables are only read
-  pub refused_store_zero : (P : Prog) (s : List ℕ) (a : Answer) (Z H C W : List ℕ) → S.Says (read_store P s) a Z H C W → (a.number ≡ 0 → ⊥) → S.tables_are Z H C W ≡ no_store_tables
+  pub refused_store_zero : (P : Prog) (s : List ℕ) (a : Answer) (Z H C W : List ℕ) → S.Says (read_store P s) (Err a) Z H C W → S.tables_are Z H C W ≡ no_store_tables
   -- machine::step
   pub stuck_changes_nothing : (Z N L B S H : List ℕ) (m m' : Machine) (r : Stepped) → Steps Z N L B S H m r m' → r ≡ T.Stuck → m' ≡ m
 
@@ -54,8 +55,8 @@ demand1 = record {
   refused_zero = λ s v Z N R D L B h ruled.
       let z : ((verdict s).number ≡ 0 → ⊥) = λ e. ruled (cases_apart v K.Accepted (said s v Z N R D L B h ∙ verdict_plain s e)) in
       rw (h.size, h.nodes, h.rows, h.vars, h.labels, h.body) (refused_tables s z);
-  refused_store_zero = λ P s a Z H C W h ruled.
-      rw (h.size, h.heads, h.cells, h.vals) (kept_zero P s (subst (λ (b : Answer). b.number ≡ 0 → ⊥) h.answer ruled));
+  refused_store_zero = λ P s a Z H C W h.
+      rw (h.size, h.heads, h.cells, h.vals) (kept_zero P s (refuses (read_store P s).answer h.answer).0);
   stuck_changes_nothing = λ Z N L B S H m m' r h e.
       (h [] []).1 ∙ ap (lent_to m) (step_rests (lines Z N L B [] []) (tables_in S H m) (subst Rests (sym e ∙ (h [] []).0) tt));
 }

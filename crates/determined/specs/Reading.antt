@@ -1,14 +1,12 @@
 -- The contracts of names, once, reader, tally, fits and store determine. Assumes nothing.
-use Rattle.std.specs.Prelude.{◌≡◌}
+use Rattle.std.specs.Prelude.{◌≡◌, Result}
 use Rattle.rules.specs.Prelude.{ℕ, List, [], refl, ap}
 use Rattle.rules.specs.declared.Answer.{Answer}
 use Rattle.rules.specs.Text.{TextOut}
-use Rattle.rules.specs.Store.Text.{Counted, counted_out}
 use Rattle.rules.specs.Store.{StoreOut}
 use Rattle.rules.specs.Text.Fill.{Filling}
 use Rattle.once.specs.Once.{Onced, once as made}
 use Rattle.reader.specs.Read.{Holds}
-use Rattle.tally.specs.declared.Tally.{Tally}
 use Rattle.store.specs.Says.{Says}
 use Rattle.determined.specs.Determined.{Determined, one, result, both, skip}
 use Rattle.determined.specs.Tables.{Six, six}
@@ -26,18 +24,15 @@ use Rattle.store.specs.contracts as store_clauses
 use Rattle.store.proofs as store
 
 -- the six tables that a glue text leaves
-left : {o : TextOut} {a : Answer} {Z N R D L B : List ℕ} → Holds o a Z N R D L B → ◌≡◌ {A = Six} (Z, (N, (R, (D, (L, (B, tt)))))) (six o.tables)
+left : {o : TextOut} {a : Result Unit Answer} {Z N R D L B : List ℕ} → Holds o a Z N R D L B → ◌≡◌ {A = Six} (Z, (N, (R, (D, (L, (B, tt)))))) (six o.tables)
 left h i = (h.size i, (h.nodes i, (h.rows i, (h.vars i, (h.labels i, (h.body i, tt))))))
 
 -- the four that a store text leaves
 abbrev Four : Type 0
 Four = List ℕ × (List ℕ × (List ℕ × (List ℕ × Unit {0})))
 
-left_store : {o : StoreOut} {a : Answer} {Z H C W : List ℕ} → Says o a Z H C W → ◌≡◌ {A = Four} (Z, (H, (C, (W, tt)))) (o.tables.size, (o.tables.heads, (o.tables.cells, (o.tables.vals, tt))))
+left_store : {o : StoreOut} {a : Result Unit Answer} {Z H C W : List ℕ} → Says o a Z H C W → ◌≡◌ {A = Four} (Z, (H, (C, (W, tt)))) (o.tables.size, (o.tables.heads, (o.tables.cells, (o.tables.vals, tt))))
 left_store h i = (h.size i, (h.heads i, (h.cells i, (h.vals i, tt))))
-
-abbrev tally_of : Counted → Tally
-tally_of (counted_out a c) = record { answer = a; count = c }
 
 -- ---- names
 
@@ -78,7 +73,7 @@ pub tally_block_words : Determined tally_clauses.block_words.ended tally.block_w
 tally_block_words κs a x y s t = result
 
 pub tally_tallied : Determined tally_clauses.tallied.ended tally.tallied.Reads.Learnt
-tally_tallied κs a x y s t h k = (ap tally_of (one h k), refl)
+tally_tallied κs a x y s t = result
 
 -- ---- fits
 

@@ -1,4 +1,8 @@
 -- The contracts of table, program and storage determine. Assumes nothing.
+use denote.Param.Laws.{Laws, IsCopy}
+use denote.RattleType.{RattleType}
+use mir.Syntax.{Dict}
+use Rattle.std.specs.declared.clone.Clone.{Ghosts}
 use Rattle.rules.specs.Prelude.{ℕ, List, [], refl, ap}
 use Rattle.rules.specs.Text.Layout.{Tables}
 use Rattle.determined.specs.Determined.{Determined, one, result, lent}
@@ -18,25 +22,28 @@ six t = (t.size, (t.nodes, (t.rows, (t.vars, (t.labels, (t.body, tt))))))
 
 -- ---- table
 
-pub table_at32 : Determined table_clauses.at32.ended table.at32.Reads.Learnt
-table_at32 κs a x y s t = result
+pub table_at : (T : RattleType) (l : Laws T) (p : IsCopy T) (g : Ghosts T.Denot) (d : Dict) → Determined (table_clauses.at.ended T g d) (table.at.Reads.Learnt T l p g d)
+table_at T l p g d κs a x y s t = result
 
-pub table_at64 : Determined table_clauses.at64.ended table.at64.Reads.Learnt
-table_at64 κs a x y s t = result
+pub table_put : (T : RattleType) (l : Laws T) (p : IsCopy T) (g : Ghosts T.Denot) (d : Dict) → Determined (table_clauses.put.ended T g d) (table.put.Reads.Learnt T l p g d)
+table_put T l p g d κs a x y s t = lent
 
-pub table_put32 : Determined table_clauses.put32.ended table.put32.Reads.Learnt
-table_put32 κs a x y s t = lent
+pub table_cell : (T : RattleType) (l : Laws T) (p : IsCopy T) (g : Ghosts T.Denot) (d : Dict) → Determined (table_clauses.cell.ended T g d) (table.cell.Reads.Learnt T l p g d)
+table_cell T l p g d κs a x y s t = result
 
-pub table_put64 : Determined table_clauses.put64.ended table.put64.Reads.Learnt
-table_put64 κs a x y s t = lent
-
-pub table_least : Determined table_clauses.least.ended table.least.Reads.Learnt
-table_least κs a x y s t = result
+pub table_put_cell : (T : RattleType) (l : Laws T) (p : IsCopy T) (g : Ghosts T.Denot) (d : Dict) → Determined (table_clauses.put_cell.ended T g d) (table.put_cell.Reads.Learnt T l p g d)
+table_put_cell T l p g d κs a x y s t = lent
 
 pub table_up_to : Determined table_clauses.up_to.ended table.up_to.Reads.Learnt
 table_up_to κs a x y s t = result
 
 -- ---- program
+
+pub program_form_of : Determined program_clauses.form_of.ended program.form_of.Reads.Learnt
+program_form_of κs a x y s t = result
+
+pub program_way_of : Determined program_clauses.way_of.ended program.way_of.Reads.Learnt
+program_way_of κs a x y s t = result
 
 pub program_row_count : Determined program_clauses.row_count.ended program.row_count.Reads.Learnt
 program_row_count κs a x y s t h k = result (h []) (k [])

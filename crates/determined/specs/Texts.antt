@@ -68,6 +68,9 @@ shape_part_of κs a x y s t = result
 pub shape_in_order : Determined shape_clauses.in_order.ended shape.in_order.Reads.Learnt
 shape_in_order κs a x y s t = result
 
+pub shape_key_of : Determined shape_clauses.key_of.ended shape.key_of.Reads.Learnt
+shape_key_of κs a x y s t = result
+
 pub shape_line_shape : Determined shape_clauses.line_shape.ended shape.line_shape.Reads.Learnt
 shape_line_shape κs a x y s t = result
 
