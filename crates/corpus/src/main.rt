@@ -72,7 +72,8 @@ fn read_some(most: usize) -> usize {
     read_into(chunk, most)
 }
 
-// So many bytes are passed over. How many each turn reads is the system's to say.
+// So many bytes are passed over.
+// Kept as it is: how many bytes each turn reads is the system's to say, so that no count of turns is known.
 fn pass_over(n: usize) {
     let mut left = n;
     while 0 < left {

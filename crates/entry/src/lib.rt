@@ -118,6 +118,7 @@ pub fn zero_offset(i: Offset) -> bool
 
 // ---- entries as numbers of a table
 
+// Kept as it is: a code is a number of a table. It is no conversion of the type, which other numbers could stand for, and offset and tag are two types.
 #[tactic(auto, unfolding(rules::specs::View::boxed_code))]
 fn boxed_from(c: u64) -> Boxed
     ensures { result ≡ boxed_code c }

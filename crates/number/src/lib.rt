@@ -10,6 +10,7 @@ use rules::{Num, Op, Psi};
 // ---- bits
 
 // k, or -1 - k: what a number is without its bits.
+// Kept as it is: neither of the two is the lack of the other, nor an error.
 #[derive(Clone, Copy)]
 pub enum Sign {
     Plus(u32),

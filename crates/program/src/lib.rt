@@ -1,4 +1,5 @@
 // The tables of a program, read and written. Each function is for every argument: past a table is nothing, and a place past it writes nothing.
+// Kept as it is: nodes stand in one table and name one another by their places, and what a thing is stands in it by number. The tables are of fixed length, and there is no heap.
 #![tactic(auto)]
 
 ghost use Rattle.std.specs.Prelude.{◌≡◌, List, [], ◌∷◌, ℕ, ◌+◌, ◌-◌, ◌*◌, ◌/◌, ◌%◌, ◌<◌, length, get_or, set, replicate};

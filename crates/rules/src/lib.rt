@@ -20,6 +20,7 @@ pub enum Boxed {
     Imm,
 }
 
+// Kept as it is: the written rules fix the form of an offset and of a tag, unknown or known with its number; as two types neither is taken for the other.
 #[derive(Clone, Copy, PartialEq, Eq)]
 pub enum Offset {
     Unknown,
@@ -55,6 +56,7 @@ impl Entry {
 }
 
 // One entry for each variable.
+// Kept as it is: the written rules fix the form, an array of 32 entries and a count; there is no heap.
 #[derive(Clone, Copy)]
 pub struct Env {
     pub entries: [Entry; 32],
@@ -139,6 +141,7 @@ impl Limits {
     }
 }
 
+// Kept as it is: `None` would not say that an int is meant.
 #[derive(Clone, Copy, PartialEq, Eq)]
 pub enum Kind {
     Cint,
@@ -146,6 +149,7 @@ pub enum Kind {
 }
 
 // How many constants a row has.
+// Kept as it is: `None` would read as no constants, where all are meant.
 #[derive(Clone, Copy)]
 pub enum Psi {
     Inf,
@@ -216,6 +220,7 @@ pub enum Datum {
 }
 
 // The answer to a text: its number, and the line that it names.
+// Kept as it is: the published table gives each answer its number, and the definitions compute with it (`Answers.first`, `Typing.type`, `Body.line_of`).
 #[derive(Clone, Copy)]
 pub struct Answer {
     pub number: u32,
@@ -258,6 +263,7 @@ pub type Addr = Result<(usize, usize), u32>;
 pub type Given = Option<Datum>;
 
 // What a line does to the environment: answer 0 goes on.
+// Kept as it is: a type of the definitions alone (`Body.line_of`, of which `Exactly.Allows.statement_exactly` speaks); no code makes one.
 #[derive(Clone, Copy)]
 pub struct Line {
     pub answer: u32,
@@ -280,6 +286,7 @@ pub type Head = Result<(u32, u32, usize), usize>;
 pub type Filling = Option<(usize, usize)>;
 
 // How much of a glue text was read. Part: 0 nothing, 1 rows may come, 2 variables, 3 the body.
+// Kept as it is: the parts are held against one another by their order (`Text.Shape.in_order`).
 #[derive(Clone, Copy)]
 pub struct Count {
     pub part: u32,
