@@ -17,7 +17,7 @@ use Rattle.rules.specs.declared.Answer.{Answer}
 use Rattle.rules.specs.When.{when}
 use Rattle.rules.specs.Answers.{answer, accepted, passes, first, outcome}
 use Rattle.rules.specs.Numbers.{num_code}
-use Rattle.rules.specs.Text.Layout.{Tables}
+use Rattle.rules.specs.declared.Tables.{Tables}
 use Rattle.rules.proofs.Laws.Lists.{tab_length}
 use Rattle.rules.specs.Program.{Stmt, bad_s}
 use Rattle.rules.specs.View.{tab, tree_of, tree_at, way_of, stmt_of, stmt_from, kind_code, rows_from, vars_from, labels_from, body_from, program}

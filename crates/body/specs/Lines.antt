@@ -10,7 +10,7 @@ use Rattle.rules.specs.declared.Way.TheVariants as W
 use Rattle.rules.specs.declared.Answer.{Answer}
 use Rattle.rules.specs.When.{when, need}
 use Rattle.rules.specs.Answers.{first}
-use Rattle.rules.specs.Text.Layout.{Tables}
+use Rattle.rules.specs.declared.Tables.{Tables}
 use Rattle.rules.specs.Typing.{Judged, type}
 use Rattle.rules.specs.Program.{Rows, Var, Stmt, bad_s, set_s, put_s, goto_s, if_s, ifimm_s, iftag_s, ifint_s, return_s, label_s}
 use Rattle.rules.specs.View.{tree_of, tree_at, rows_from, vars_from, body_from, stmt_from, program}

@@ -7,7 +7,7 @@ use Rattle.std.specs.Prelude.{◌+◌, ◌<◌, ◌∷◌, ◌++◌, ◌≡◌}
 use Rattle.rules.specs.Prelude.{ℕ, Bool, true, false, List, [], map, refl, ap, ltb, length}
 use Rattle.rules.specs.declared.Env.{Env}
 use Rattle.rules.specs.Answers.{accepted, passes, and_then, first}
-use Rattle.rules.specs.Text.Layout.{Tables}
+use Rattle.rules.specs.declared.Tables.{Tables}
 use Rattle.rules.specs.Program.{Stmt, bad_s, set_s, put_s, goto_s, if_s, ifimm_s, iftag_s, ifint_s, return_s, label_s, Prog, label_there}
 use Rattle.rules.specs.View.{program}
 use Rattle.rules.specs.Names.{stmt_there, name_row, name_var, name_stmt, names}

@@ -9,7 +9,8 @@ use Rattle.rules.specs.declared.Verdict.TheVariants as C
 use Rattle.rules.specs.When.{One}
 use Rattle.rules.specs.Limits.{limits}
 use Rattle.rules.specs.Answers.{accepted, and_then, outcome, case_of}
-use Rattle.rules.specs.Text.Layout.{Tables, nothing, zeros}
+use Rattle.rules.specs.declared.Tables.{Tables}
+use Rattle.rules.specs.Text.Layout.{nothing, zeros}
 use Rattle.rules.specs.Text.{TextOut, Lined, lined, and_line, line_at, lines_from, most_lines, read_text}
 use Rattle.rules.specs.View.{program}
 use Rattle.rules.specs.Names.{names}

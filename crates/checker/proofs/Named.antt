@@ -14,7 +14,7 @@ use Rattle.rules.specs.declared.Psi.{Psi}
 use Rattle.rules.specs.declared.Psi.TheVariants.{Inf, Upto}
 use Rattle.rules.specs.declared.Tag.{Tag}
 use Rattle.rules.specs.Numbers.{among, suits}
-use Rattle.rules.specs.Text.Layout.{Tables}
+use Rattle.rules.specs.declared.Tables.{Tables}
 use Rattle.rules.specs.Program.{Prog, Row, Rows, Expr, Stmt, bad_s, set_s, put_s, goto_s, if_s, ifimm_s, iftag_s, ifint_s, return_s, label_s, row_at, psi_of, row_there}
 use Rattle.rules.specs.View.{program}
 use Rattle.rules.specs.Names.{expr_there, stmt_there, names}

@@ -9,14 +9,15 @@ use Rattle.rules.specs.declared.Verdict.TheVariants as K
 use Rattle.rules.specs.When.{when}
 use Rattle.rules.specs.Limits.{limits}
 use Rattle.rules.specs.Answers.{answer, accepted, answer_of, case_of, passes}
-use Rattle.rules.specs.Text.Layout.{Tables}
+use Rattle.rules.specs.declared.Tables.{Tables}
 use Rattle.rules.specs.Program.{Prog}
 use Rattle.rules.specs.View.{program}
 use Rattle.rules.specs.Check.{Checked, checked, verdict}
 use Rattle.rules.specs.Machine.{step_of, run_of, says}
 use Rattle.rules.specs.Machine.Tables.{MTables, machine, step_t, run_t, spent, step_within, says_within, run_within}
 use Rattle.rules.specs.Store.Text.{Counted, counted_out, store_lines, most_store_lines, no_store}
-use Rattle.rules.specs.Store.Fill.{StoreTables, no_store_tables, fill_store}
+use Rattle.rules.specs.declared.StoreTables.{StoreTables}
+use Rattle.rules.specs.Store.Fill.{no_store_tables, fill_store}
 use Rattle.rules.specs.Store.{StoreOut, kept_store, judged, params_of, read_store}
 use Rattle.rules.specs.Run.{Result, start, refused, result_of, run_store, run_checked, glue_of, store_text_of, running}
 use Rattle.rules.proofs.Demands.{program_of, demand3, counted}

@@ -4,7 +4,7 @@ use denote.RattleType.{RattleType}
 use mir.Syntax.{Dict}
 use Rattle.std.specs.declared.clone.Clone.{Ghosts}
 use Rattle.rules.specs.Prelude.{ℕ, List, [], refl, ap}
-use Rattle.rules.specs.Text.Layout.{Tables}
+use Rattle.rules.specs.declared.Tables.{Tables}
 use Rattle.determined.specs.Determined.{Determined, one, result, lent}
 use Rattle.table.specs.contracts as table_clauses
 use Rattle.table.proofs as table

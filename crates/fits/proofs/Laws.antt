@@ -13,7 +13,7 @@ use Rattle.rules.specs.Environments.{no_var}
 use Rattle.rules.specs.Machine.{Store, block_at, row_in, tag_in, cells_in, cell_at, ev_var}
 use Rattle.rules.specs.Machine.Tables.{store_of, vals_of}
 use Rattle.rules.specs.Fits.{fits, cells_fit, block_number, arg_numbers}
-use Rattle.rules.specs.Store.Fill.{StoreTables}
+use Rattle.rules.specs.declared.StoreTables.{StoreTables}
 use Rattle.rules.specs.Store.{store_fits}
 use Rattle.rules.proofs.Sound.StepTables.{vals_length}
 use Rattle.table.proofs.Passes.{left_more, left_none, all_on, all_no, first_append, then_on, then_no}

@@ -13,7 +13,8 @@ use Rattle.rules.specs.When.{when}
 use Rattle.rules.proofs.Laws.Tests.{by_when}
 use Rattle.rules.specs.Text.Words.{byte_at, value_of, next_of, byte_is, plain_at, number_at, var_at}
 use Rattle.rules.specs.Text.Shape.{after, over, space, expr_shape, key_of, line_shape}
-use Rattle.rules.specs.Text.Layout.{Tables, with_nodes, with_body, one_line}
+use Rattle.rules.specs.declared.Tables.{Tables}
+use Rattle.rules.specs.Text.Layout.{with_nodes, with_body, one_line}
 use Rattle.rules.specs.Text.Fill.{Filled, filled, Out, out, expression, expr_line, fill_set, fill_put_two, fill_put, fill_if, fill_return, one_more, fill_line}
 use Rattle.once.specs.Once.{expr_once, Onced, once, last_once, after_mark, set_once, if_once, rest_once, two_once, put_once, key_once, line_once, has_expr}
 use Rattle.once.proofs.Keys.{none}

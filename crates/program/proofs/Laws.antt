@@ -9,7 +9,8 @@ use Rattle.rules.specs.declared.Kind.TheVariants.{Cint}
 use Rattle.rules.specs.Limits.{limits}
 use Rattle.rules.specs.Program.{Row, Var, Label, Rows, bad_s, no_entry, row_at, psi_of, prods_of, fields_of, field_of, kind_at, label_at}
 use Rattle.rules.specs.Environments.{no_var, label_env}
-use Rattle.rules.specs.Text.Layout.{cell, row_width, var_width, label_width, Tables, zeros}
+use Rattle.rules.specs.declared.Tables.{Tables}
+use Rattle.rules.specs.Text.Layout.{cell, row_width, var_width, label_width, zeros}
 use Rattle.rules.specs.View.{tab, up_to, psi_code, product_from, row_from, rows_from, kind_code, var_from, vars_from, entry_from, label_from, labels_from, body_from, stmt_from, stmt_of, way_of, program}
 use Rattle.rules.proofs.Laws.Lists.{tab_length, tab_in, up_to_le}
 use Rattle.table.proofs.Laws.{below, tab_drop, tab_out}

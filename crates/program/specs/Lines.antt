@@ -1,7 +1,8 @@
 -- A body line as its five numbers, in the order in which they stand; and six lists as a program's tables. Assumes nothing.
 use Rattle.rules.specs.Prelude.{ℕ, Bool, false, List, eqb}
 use Rattle.rules.specs.When.{when}
-use Rattle.rules.specs.Text.Layout.{cell, line_width, Tables}
+use Rattle.rules.specs.declared.Tables.{Tables}
+use Rattle.rules.specs.Text.Layout.{cell, line_width}
 use Rattle.program.specs.declared.Stored.{Stored}
 
 unfoldable pub stored_at : List ℕ → ℕ → Stored

@@ -12,7 +12,7 @@ ghost use Rattle.program.specs.Lines.{stored_at, is_label_line, tables_of};
 ghost use Rattle.program.specs.Labels.{Whole, env_from, codes_from};
 ghost use Rattle.program.specs.Nodes.{arity, within, leaf_at};
 
-use rules::{Boxed, Entry, Env, Form, Kind, Limits, Num, Offset, Op, Psi, Tag, Way};
+use rules::{Boxed, Entry, Env, Form, Kind, Limits, Num, Offset, Op, Psi, Tables, Tag, Way};
 
 // How many numbers each thing has in its table.
 const ROW_WIDTH: usize = 274;
@@ -496,21 +496,13 @@ pub fn put_sizes(
 // ---- clearing
 
 // All tables of a program.
-#[tactic(auto, using(crate::proofs::Laws::zeros_are))]
-pub fn clear(
-    size: &mut [u32; 6],
-    nodes: &mut [u64; 4096],
-    rows: &mut [u32; 17536],
-    vars: &mut [u32; 96],
-    labels: &mut [u64; 6208],
-    body: &mut [u32; 2560],
-)
-    ensures { tables_of size.new nodes.new rows.new vars.new labels.new body.new ≡ zeros }
+pub fn clear(t: &mut Tables)
+    ensures { t.new ≡ zeros }
 {
-    *size = [0; 6];
-    *nodes = [0; 4096];
-    *rows = [0; 17536];
-    *vars = [0; 96];
-    *labels = [0; 6208];
-    *body = [0; 2560];
+    t.size = [0; 6];
+    t.nodes = [0; 4096];
+    t.rows = [0; 17536];
+    t.vars = [0; 96];
+    t.labels = [0; 6208];
+    t.body = [0; 2560];
 }

@@ -12,7 +12,8 @@ use Rattle.rules.specs.When.{when}
 use Rattle.rules.specs.Text.{lined, shaped}
 use Rattle.rules.specs.Text.Words.{byte_at, value_of, next_of, byte_is}
 use Rattle.rules.specs.Text.Shape.{after, over, end, boxed_at, offset_at, tag_at, entry_shape, more_entries, label_shape, key_of, part_of, line_shape}
-use Rattle.rules.specs.Text.Layout.{Tables, with_labels, with_body, one_label, one_line, in_part}
+use Rattle.rules.specs.declared.Tables.{Tables}
+use Rattle.rules.specs.Text.Layout.{with_labels, with_body, one_label, one_line, in_part}
 use Rattle.rules.specs.Text.Fill.{filled, put_line, plain_line, put_entry, fill_entries, fill_label, fill_line}
 use Rattle.once.specs.Once.{after_mark}
 use Rattle.once.proofs.Right.{Refuses}

@@ -13,7 +13,8 @@ use Rattle.rules.proofs.Laws.Tests.{by_when}
 use Rattle.rules.specs.Text.{TextOut, Lined, lined, limited, shaped, keyed, line_at}
 use Rattle.rules.specs.Text.Words.{byte_at, value_of, next_of, plain_at, number_at, var_at}
 use Rattle.rules.specs.Text.Shape.{kind_word, psi_at, key_of, key_at, line_shape, in_order}
-use Rattle.rules.specs.Text.Layout.{Tables, zeros, row_width}
+use Rattle.rules.specs.declared.Tables.{Tables}
+use Rattle.rules.specs.Text.Layout.{zeros, row_width}
 use Rattle.rules.specs.Text.Fill.{Filled, filled, Out, out, expression, kind_value, kind_next, add_var, Fields, fields, fill_ret, fill_param, fill_local, fill_products, add_row, fill_type, plain_line, expr_line, fill_set, fill_put_two, fill_put, fill_goto, fill_if, fill_ifimm, fill_test, fill_return, fill_label, one_more, fill_line}
 use Rattle.text.proofs.Laws.{Reads, number_reads, plain_reads, var_reads, value_most, next_most}
 use Rattle.shape.proofs.Laws.{kind_reads, psi_reads}

@@ -10,7 +10,8 @@ use Rattle.rules.proofs.Laws.Tests.{by_when}
 use Rattle.rules.specs.Text.{TextOut, Lined, lined, limited, shaped, keyed, line_at, and_line}
 use Rattle.rules.specs.Text.Words.{byte_at}
 use Rattle.rules.specs.Text.Shape.{key_at, key_of, in_order, part_of, line_shape}
-use Rattle.rules.specs.Text.Layout.{Tables, with_nodes, with_body, one_line, in_part, nothing, zeros}
+use Rattle.rules.specs.declared.Tables.{Tables}
+use Rattle.rules.specs.Text.Layout.{with_nodes, with_body, one_line, in_part, nothing, zeros}
 use Rattle.rules.specs.Text.Fill.{Filled, filled, fill_line}
 use Rattle.text.proofs.Laws.{inside}
 use Rattle.once.specs.Once.{Onced, once, line_once, has_expr}

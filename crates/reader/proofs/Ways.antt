@@ -13,7 +13,8 @@ use Rattle.rules.specs.Answers.{answer}
 use Rattle.rules.specs.Text.{TextOut, stopped, Lined, lined, limited, shaped, keyed, line_at, ended, and_line, lines_from}
 use Rattle.rules.specs.Text.Words.{byte_at, value_of, next_of, plain_at}
 use Rattle.rules.specs.Text.Shape.{psi_at, key_of, in_order, line_shape}
-use Rattle.rules.specs.Text.Layout.{Tables, with_labels, nothing}
+use Rattle.rules.specs.declared.Tables.{Tables}
+use Rattle.rules.specs.Text.Layout.{with_labels, nothing}
 use Rattle.rules.specs.Text.Fill.{Filled, filled, Fields, fields, put_field, more_fields, fill_fields, fill_products, add_row, fill_type, plain_line, fill_entries, add_label, fill_label, one_more, fill_line}
 use Rattle.reader.specs.Read.{settled, Closed, read_over}
 use Rattle.reader.proofs.Once.{line_settled}

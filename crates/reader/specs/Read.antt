@@ -8,7 +8,8 @@ use Rattle.rules.specs.When.{when}
 use Rattle.rules.specs.Limits.{limits}
 use Rattle.rules.specs.Text.Words.{byte_at}
 use Rattle.rules.specs.Text.Shape.{key_of, line_shape}
-use Rattle.rules.specs.Text.Layout.{Tables, nothing, zeros}
+use Rattle.rules.specs.declared.Tables.{Tables}
+use Rattle.rules.specs.Text.Layout.{nothing, zeros}
 use Rattle.rules.specs.Text.Fill.{Filled, filled, Fields, fields, fill_line}
 use Rattle.rules.specs.Answers.{answer, outcome}
 use Rattle.rules.specs.Text.{Lined, lined, TextOut, stopped, lines_from, most_lines, read_text}

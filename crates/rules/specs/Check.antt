@@ -3,7 +3,8 @@ use Rattle.rules.specs.Prelude.{ℕ, List, Answer}
 use Rattle.rules.specs.When.{One, when}
 use Rattle.rules.specs.Numbers.{numbers}
 use Rattle.rules.specs.Answers.{and_then, passes}
-use Rattle.rules.specs.Text.Layout.{Tables, zeros}
+use Rattle.rules.specs.declared.Tables.{Tables}
+use Rattle.rules.specs.Text.Layout.{zeros}
 use Rattle.rules.specs.Text.{TextOut, read_text, texts}
 use Rattle.rules.specs.Program.{Prog}
 use Rattle.rules.specs.View.{program, views}

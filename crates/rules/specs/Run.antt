@@ -11,7 +11,7 @@ use Rattle.rules.specs.Program.{Prog}
 use Rattle.rules.specs.View.{program}
 use Rattle.rules.specs.Check.{Checked, checked, verdict, checks}
 use Rattle.rules.specs.Machine.Tables.{MTables, datum_code, run_t}
-use Rattle.rules.specs.Store.Fill.{StoreTables}
+use Rattle.rules.specs.declared.StoreTables.{StoreTables}
 use Rattle.rules.specs.Store.{StoreOut, read_store, stores}
 
 -- the first line starting `run=`: how many bytes come before it (all, if there is none); `fresh` where a line begins

@@ -10,7 +10,8 @@ use Rattle.rules.specs.Program.{Var, Prog}
 use Rattle.rules.specs.Machine.Tables.{store_of, vals_of, machine_tables}
 use Rattle.rules.specs.Fits.{block_number, arg_numbers, fitting}
 use Rattle.rules.specs.Store.Text.{Counted, counted_out, store_lines, most_store_lines, no_store}
-use Rattle.rules.specs.Store.Fill.{StoreTables, no_store_tables, fill_store, store_names, store_fills}
+use Rattle.rules.specs.declared.StoreTables.{StoreTables}
+use Rattle.rules.specs.Store.Fill.{no_store_tables, fill_store, store_names, store_fills}
 
 -- 25 to 27 over what was written: each block line, then each argument line
 unfoldable pub store_fits : Prog → StoreTables → Answer

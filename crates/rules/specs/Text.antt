@@ -12,7 +12,8 @@ use Rattle.rules.specs.Limits.{limits}
 use Rattle.rules.specs.Answers.{answer, accepted}
 use Rattle.rules.specs.Text.Words.{byte_at}
 use Rattle.rules.specs.Text.Shape.{key_at, key_of, part_of, in_order, line_shape}
-use Rattle.rules.specs.Text.Layout.{tables, in_part, Tables, zeros, sized, nothing}
+use Rattle.rules.specs.declared.Tables.{Tables}
+use Rattle.rules.specs.Text.Layout.{tables, in_part, zeros, sized, nothing}
 use Rattle.rules.specs.Text.Fill.{fills, Filled, filled, fill_line}
 
 -- a line: its answer (0 goes on), the byte after it, counts and tables

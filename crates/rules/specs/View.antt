@@ -12,7 +12,8 @@ use Rattle.rules.specs.Prelude.O
 use Rattle.rules.specs.When.{One, when}
 use Rattle.rules.specs.Numbers.{num_code}
 use Rattle.rules.specs.Limits.{limits}
-use Rattle.rules.specs.Text.Layout.{row_width, var_width, label_width, line_width, cell, Tables}
+use Rattle.rules.specs.declared.Tables.{Tables}
+use Rattle.rules.specs.Text.Layout.{row_width, var_width, label_width, line_width, cell}
 use Rattle.rules.specs.Program.{Rows, parts, Row, Var, Expr, bad, lit, var, arith, val, int, fetch, step, Stmt, bad_s, set_s, put_s, goto_s, if_s, ifimm_s, iftag_s, ifint_s, return_s, label_s, Label, Prog, entry}
 
 -- f 0, f 1, .., n of them

@@ -299,6 +299,26 @@ pub struct Count {
     pub nodes: usize,
 }
 
+// The tables of a program: size (kind code of `ret`, rows, variables, labels, body lines, nodes), and a table for each kind of thing.
+#[derive(Drop)]
+pub struct Tables {
+    pub size: [u32; 6],
+    pub nodes: [u64; 4096],
+    pub rows: [u32; 17536],
+    pub vars: [u32; 96],
+    pub labels: [u64; 6208],
+    pub body: [u32; 2560],
+}
+
+// The tables of a store: size (budget, blocks), the blocks' heads and cells, and what the variables hold.
+#[derive(Drop)]
+pub struct StoreTables {
+    pub size: [u32; 2],
+    pub heads: [u32; 768],
+    pub cells: [u64; 4352],
+    pub vals: [u64; 32],
+}
+
 // ---- the machine
 
 // What a line does: nothing (stuck), the next line, a line by its place, a variable or a cell gets a datum, the machine returns.

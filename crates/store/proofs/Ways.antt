@@ -20,7 +20,8 @@ use Rattle.rules.specs.Environments.{no_var}
 use Rattle.rules.specs.Program.{Rows, Var, Prog}
 use Rattle.rules.specs.Machine.Tables.{block_width}
 use Rattle.rules.specs.Store.Text.{Counted, counted_out, cell_word, arg_word}
-use Rattle.rules.specs.Store.Fill.{line_after, next_line, row_of, tag_word, cells_start, cell_count, datum_there, cells_there, block_there, arg_names, block_names, store_names, StoreTables, no_store_tables, kept_cells, put_head, fill_cells, fill_vals, fill_blocks, fill_store}
+use Rattle.rules.specs.declared.StoreTables.{StoreTables}
+use Rattle.rules.specs.Store.Fill.{line_after, next_line, row_of, tag_word, cells_start, cell_count, datum_there, cells_there, block_there, arg_names, block_names, store_names, no_store_tables, kept_cells, put_head, fill_cells, fill_vals, fill_blocks, fill_store}
 use Rattle.rules.specs.Store.{StoreOut, kept_store, judged, params_of, read_store, store_fits}
 use Rattle.text.proofs.Laws.{value_most, next_most, plain_reads, number_reads}
 use Rattle.table.proofs.Passes.{left_more, left_none}

@@ -2,7 +2,8 @@
 use Rattle.std.specs.Prelude.{◌≡◌}
 use Rattle.rules.specs.Prelude.{ℕ, List, Result, Ok, Err}
 use Rattle.rules.specs.declared.Answer.{Answer}
-use Rattle.rules.specs.Store.Fill.{StoreTables, no_store_tables}
+use Rattle.rules.specs.declared.StoreTables.{StoreTables}
+use Rattle.rules.specs.Store.Fill.{no_store_tables}
 use Rattle.rules.specs.Answers.{outcome}
 use Rattle.rules.specs.Store.{StoreOut}
 

@@ -5,7 +5,8 @@ use Rattle.std.specs.Prelude.{◌+◌, ◌≡◌, ◌↔◌}
 use Rattle.rules.specs.Prelude.{ℕ, zero, suc, List, ap, ltb, eqb, length, Answer, Count}
 use Rattle.rules.specs.Limits.{limits}
 use Rattle.rules.specs.Answers.{answer, accepted, and_then}
-use Rattle.rules.specs.Text.Layout.{Tables, nothing, zeros}
+use Rattle.rules.specs.declared.Tables.{Tables}
+use Rattle.rules.specs.Text.Layout.{nothing, zeros}
 use Rattle.rules.specs.Text.{Lined, lined, TextOut, and_line, lines_from, read_text, most_lines, line_at}
 use Rattle.rules.specs.Program.{Prog}
 use Rattle.rules.specs.View.{program}

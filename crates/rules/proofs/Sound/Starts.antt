@@ -12,7 +12,7 @@ use Rattle.rules.specs.Numbers.{suits}
 use Rattle.rules.specs.Limits.{limits}
 use Rattle.rules.specs.Answers.{accepted}
 use Rattle.rules.specs.Text.Words.{value_of}
-use Rattle.rules.specs.Text.Layout.{Tables}
+use Rattle.rules.specs.declared.Tables.{Tables}
 use Rattle.rules.specs.Program.{label_at, Prog, Var, Rows, psi_of, kind_at, loosest, no_entry}
 use Rattle.rules.specs.View.{vars_from, labels_from, up_to, label_from, program, var_from}
 use Rattle.rules.specs.Environments.{local_entry, start_entry, no_var, start_at, start_env}
@@ -22,7 +22,8 @@ use Rattle.rules.specs.Machine.Tables.{code_of, datum_code, store_of, vals_of, b
 use Rattle.rules.specs.Machine.{Store}
 use Rattle.rules.specs.Fits.{fits, block_number, arg_numbers}
 use Rattle.rules.specs.Store.Text.{arg_word, Counted, counted_out, store_lines, most_store_lines, no_store}
-use Rattle.rules.specs.Store.Fill.{after_arg, StoreTables, no_store_tables, local_datum, fill_cells, fill_vals, fill_blocks, fill_store, next_line, store_names}
+use Rattle.rules.specs.declared.StoreTables.{StoreTables}
+use Rattle.rules.specs.Store.Fill.{after_arg, no_store_tables, local_datum, fill_cells, fill_vals, fill_blocks, fill_store, next_line, store_names}
 use Rattle.rules.specs.Store.{store_fits, judged, read_store, params_of, StoreOut}
 use Rattle.rules.specs.Run.{start}
 use Rattle.rules.proofs.Laws.Tests.{by_when}

@@ -14,7 +14,8 @@ use Rattle.rules.specs.Prelude.D
 use Rattle.rules.specs.When.{when}
 use Rattle.rules.specs.Numbers.{eq_z, zero_n, same_num, num_code}
 use Rattle.rules.specs.Limits.{limits}
-use Rattle.rules.specs.Text.Layout.{Tables, cell}
+use Rattle.rules.specs.declared.Tables.{Tables}
+use Rattle.rules.specs.Text.Layout.{cell}
 use Rattle.rules.specs.Program.{Rows, row_there, Expr, bad, lit, var, arith, val, int, fetch, step, Stmt, bad_s, set_s, put_s, goto_s, if_s, ifimm_s, iftag_s, ifint_s, return_s, label_s, label_there, Prog}
 use Rattle.rules.specs.View.{body_from, vars_from, form_of, Walked, walked, one, two, tree_node, tree_at, with_one, with_two, tree_of, stmt_of, stmt_from, program, tab, up_to}
 use Rattle.rules.specs.Machine.Tables.{block_width, head_width, run_t, datum_code, code_of, MTables, block_from, store_of, vals_of, machine, apply_t, step_from_t, step_t}

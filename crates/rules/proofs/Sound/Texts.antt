@@ -7,14 +7,15 @@ use Rattle.rules.specs.Prelude.{ℕ, List, refl, sym, ap, subst, ◌∙◌, leng
 use Rattle.rules.specs.Prelude.D
 use Rattle.rules.specs.Prelude.S
 use Rattle.rules.specs.Answers.{accepted}
-use Rattle.rules.specs.Text.Layout.{Tables}
+use Rattle.rules.specs.declared.Tables.{Tables}
 use Rattle.rules.specs.Program.{Prog, kind_at, loosest, no_entry}
 use Rattle.rules.specs.View.{program}
 use Rattle.rules.specs.Check.{check, checked, verdict}
 use Rattle.rules.specs.Machine.Tables.{MTables, machine, run_t, store_of, vals_of, datum_code}
 use Rattle.rules.specs.Machine.{Machine, says, decide, says_act, run_of}
 use Rattle.rules.specs.Fits.{Entered, unreached, entered, env_at}
-use Rattle.rules.specs.Store.Fill.{StoreTables, fill_store}
+use Rattle.rules.specs.declared.StoreTables.{StoreTables}
+use Rattle.rules.specs.Store.Fill.{fill_store}
 use Rattle.rules.specs.Store.{read_store}
 use Rattle.rules.specs.Run.{start}
 use Rattle.rules.specs.Wrong.{GoesOn, VariablesFit, SameBlocks, NotWrong}

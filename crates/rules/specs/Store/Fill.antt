@@ -1,4 +1,5 @@
 -- The store text, of a right shape: what it names (24), and what it writes into the tables. Each is a pass over the text. Assumes nothing.
+use Rattle.rules.specs.declared.StoreTables.{StoreTables}
 use Rattle.std.specs.Prelude.{◌+◌, ◌*◌, ◌&&◌, ◌∷◌}
 use Rattle.rules.specs.Text.Words.{Reading}
 use Rattle.rules.specs.Prelude.{ℕ, zero, suc, Bool, true, false, List, [], ltb, eqb, set, drop, replicate, Num, Kind, Cint, Value, Answer, StoreCount, Datum, Int, Imm}
@@ -69,12 +70,6 @@ unfoldable pub store_names : List ℕ → Rows → StoreCount → Answer
 store_names s ρ c = first 2 (block_names s ρ c.blocks c.args c.blocks (next_line s 0))
 
 -- ---- what is written
-
-pub record StoreTables : Type 0 where
-  pub size : List ℕ
-  pub heads : List ℕ
-  pub cells : List ℕ
-  pub vals : List ℕ
 
 unfoldable pub no_store_tables : StoreTables
 no_store_tables =

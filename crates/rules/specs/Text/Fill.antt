@@ -9,7 +9,8 @@ use Rattle.rules.specs.When.{One, when}
 use Rattle.rules.specs.Limits.{limits}
 use Rattle.rules.specs.Text.Words.{byte_at, value_of, next_of, plain_at, number_at, var_at, arity, head_at}
 use Rattle.rules.specs.Text.Shape.{shapes, kind_word, psi_at, boxed_at, offset_at, tag_at}
-use Rattle.rules.specs.Text.Layout.{with_nodes, with_rows, with_vars, with_labels, with_body, with_ret, one_row, one_var, one_label, one_line, Tables, row_width, var_width, label_width, line_width}
+use Rattle.rules.specs.declared.Tables.{Tables}
+use Rattle.rules.specs.Text.Layout.{with_nodes, with_rows, with_vars, with_labels, with_body, with_ret, one_row, one_var, one_label, one_line, row_width, var_width, label_width, line_width}
 
 -- within the limits, or not; with the counts and the tables after it
 pub data Filled : Type 0 where

@@ -1,4 +1,5 @@
 -- The tables of a program, and where each number stands in them. 0 means nothing; what is unused is 0. Assumes nothing.
+use Rattle.rules.specs.declared.Tables.{Tables}
 use Rattle.std.specs.Prelude.{◌+◌, ◌*◌, ◌∷◌}
 use Rattle.rules.specs.Prelude.{ℕ, List, [], get_or, replicate, Count}
 use Rattle.rules.specs.When.{One}
@@ -10,14 +11,6 @@ use Rattle.rules.specs.Limits.{limits}
 -- vars: 32 times 3: kind code, 1 param or 2 local, the local's word
 -- labels: 64 times 97: body line + 1, then B, I, T for each variable
 -- body: 512 times 5: kind, label, variable, word, first node
-pub record Tables : Type 0 where
-  pub size : List ℕ
-  pub nodes : List ℕ
-  pub rows : List ℕ
-  pub vars : List ℕ
-  pub labels : List ℕ
-  pub body : List ℕ
-
 abbrev pub row_width : ℕ
 row_width = 274
 

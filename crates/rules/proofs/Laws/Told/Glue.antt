@@ -11,7 +11,8 @@ use Rattle.rules.specs.Numbers.{among, suits, nat_of, zero_n}
 use Rattle.rules.specs.Answers.{answer, accepted, case_of}
 use Rattle.rules.specs.Text.Words.{byte_at}
 use Rattle.rules.specs.Text.Shape.{key_at, key_of, in_order, line_shape}
-use Rattle.rules.specs.Text.Layout.{Tables, nothing, zeros}
+use Rattle.rules.specs.declared.Tables.{Tables}
+use Rattle.rules.specs.Text.Layout.{nothing, zeros}
 use Rattle.rules.specs.Text.Fill.{Filled, filled, fill_line}
 use Rattle.rules.specs.Text.{Lined, lined, limited, shaped, keyed, line_at, TextOut, and_line, most_lines, lines_from, read_text}
 use Rattle.rules.specs.Program.{Row, Rows, Var, Label, Expr, bad, lit, var, arith, val, int, fetch, step, Stmt, bad_s, set_s, put_s, goto_s, if_s, ifimm_s, iftag_s, ifint_s, return_s, label_s, Prog, is_zero, psi_of, prods_of, fields_of, field_of, same_kind, kind_at}

@@ -11,7 +11,8 @@ use Rattle.rules.specs.Machine.{Block, Store}
 use Rattle.rules.specs.Machine.Tables.{store_of, vals_of}
 use Rattle.rules.specs.Fits.{fits, right_shape, cells_fit, block_number, arg_numbers}
 use Rattle.rules.specs.Store.Text.{arg_word, store_key, store_order, store_words, counted, within, StoreLine, store_line, store_shaped, store_keyed, store_line_at, Counted, counted_out, and_store, most_store_lines, store_lines, no_store}
-use Rattle.rules.specs.Store.Fill.{StoreTables, next_line, after_block, after_arg, datum_there, block_there, arg_names, block_names, store_names, fill_store}
+use Rattle.rules.specs.declared.StoreTables.{StoreTables}
+use Rattle.rules.specs.Store.Fill.{next_line, after_block, after_arg, datum_there, block_there, arg_names, block_names, store_names, fill_store}
 use Rattle.rules.specs.Store.{store_fits, StoreOut, judged, params_of, read_store}
 use Rattle.rules.proofs.Laws.Tests.{by_need, by_when}
 use Rattle.rules.proofs.Laws.Stages.{Each}
