@@ -19,9 +19,7 @@ use Rattle.rules.specs.Check.{check, Checked, checked, verdict}
 use Rattle.rules.proofs.Laws.Tests.{by_when}
 use Rattle.rules.proofs.Laws.Accepts.{refused_tables, accepted_tables, verdict_plain}
 use Rattle.table.proofs.Passes.{then_no}
-use Rattle.program.specs.Lines.{tables_of}
 use Rattle.reader.specs.Read.{Holds, read_over, over_zeros}
-use Rattle.reader.proofs.Laws.{tables_are_lem}
 use Rattle.names.specs.Trees.{names_in}
 use Rattle.table.proofs.Passes.{accepts, refuses, outcome_on, outcome_no}
 use Rattle.body.specs.Lines.{types_in}
@@ -80,28 +78,15 @@ text_clear s = by_when Clear (ltb limits.bytes (length s)) _ _ (λ z h. refl) (�
 
 -- ---- the answer and the tables
 
-module _ (Z N R D L B : List ℕ) where
-  says : (c : Checked) (v : Verdict) → v ≡ case_of c.verdict → tables_of Z N R D L B ≡ c.tables → Says c v Z N R D L B
-  says c v e h =
-      record {
-        answer = e;
-        size = ap (λ (t : Tables). t.size) h;
-        nodes = ap (λ (t : Tables). t.nodes) h;
-        rows = ap (λ (t : Tables). t.rows) h;
-        vars = ap (λ (t : Tables). t.vars) h;
-        labels = ap (λ (t : Tables). t.labels) h;
-        body = ap (λ (t : Tables). t.body) h;
-      }
+refused : (s : List ℕ) (a : Answer) (v : Verdict) (t : Tables) → v ≡ case_of a → (checked s).verdict ≡ a → (a.number ≡ 0 → ⊥) → t ≡ zeros → Says (checked s) v t
+unfolding verdict
+refused s a v t k e n h = record { answer = k ∙ ap case_of (sym e); tables = h ∙ sym (refused_tables s (λ z. n (subst (λ (x : Answer). x.number ≡ 0) e z))) }
 
-  pub refused : (s : List ℕ) (a : Answer) (v : Verdict) → v ≡ case_of a → (checked s).verdict ≡ a → (a.number ≡ 0 → ⊥) → tables_of Z N R D L B ≡ zeros → Says (checked s) v Z N R D L B
-  unfolding verdict
-  refused s a v k e n h = says (checked s) v (k ∙ ap case_of (sym e)) (h ∙ sym (refused_tables s (λ z. n (subst (λ (x : Answer). x.number ≡ 0) e z))))
-
-  pub passed : (s : List ℕ) (a : Answer) → (checked s).verdict ≡ a → a.number ≡ 0 → tables_of Z N R D L B ≡ (read_text s).tables → Says (checked s) C.Accepted Z N R D L B
-  unfolding verdict case_of
-  passed s a e z h =
-      let p : (checked s).verdict ≡ accepted = verdict_plain s (subst (λ (x : Answer). x.number ≡ 0) (sym e) z) in
-      says (checked s) C.Accepted (sym (ap case_of p)) (h ∙ sym (accepted_tables s p))
+passed : (s : List ℕ) (a : Answer) (t : Tables) → (checked s).verdict ≡ a → a.number ≡ 0 → t ≡ (read_text s).tables → Says (checked s) C.Accepted t
+unfolding verdict case_of
+passed s a t e z h =
+    let p : (checked s).verdict ≡ accepted = verdict_plain s (subst (λ (x : Answer). x.number ≡ 0) (sym e) z) in
+    record { answer = sym (ap case_of p); tables = h ∙ sym (accepted_tables s p) }
 
 -- ---- a text, read over tables that hold nothing
 
@@ -113,35 +98,33 @@ same {a} {b} e =
     let s : a ≡ b = cc in
     (s, subst (λ (x : Answer). x.number ≡ 0 → ⊥) (sym s) w.0)
 
-module _ (s : List ℕ) (t : Tables) (e : t ≡ zeros) {r : Result Unit Answer} {Z N R D L B : List ℕ} (h : Holds (read_over s t) r Z N R D L B) where
+module _ (s : List ℕ) (t : Tables) (e : t ≡ zeros) {r : Result Unit Answer} {u : Tables} (h : Holds (read_over s t) r u) where
   fresh : read_over s t ≡ read_text s
   fresh = ap (read_over s) e ∙ over_zeros s
 
   answered : r ≡ outcome (read_text s).answer
   answered = h.answer ∙ ap (λ (o : TextOut). outcome o.answer) fresh
 
-  as_read : tables_of Z N R D L B ≡ (read_text s).tables
-  as_read = tables_are_lem h ∙ ap (λ (o : TextOut). o.tables) fresh
+  as_read : u ≡ (read_text s).tables
+  as_read = h.tables ∙ ap (λ (o : TextOut). o.tables) fresh
 
   abbrev rest : One → Answer
   rest x = check (program (read_text s).tables)
 
-  pub by_reading : {a : Answer} → r ≡ Err a → {v : Verdict} → v ≡ case_of a → Says (checked s) v Z N R D L B
+  pub by_reading : {a : Answer} → r ≡ Err a → {v : Verdict} → v ≡ case_of a → Says (checked s) v u
   unfolding checked
   by_reading {a} q {v} k =
       let w = same (sym q ∙ answered) in
-      refused Z N R D L B s a v k
-      (sym (then_no (read_text s).answer rest (subst (λ (x : Answer). x.number ≡ 0 → ⊥) w.0 w.1)) ∙ sym w.0)
-      w.1
-      (as_read ∙ text_clear s (subst (λ (x : Answer). x.number ≡ 0 → ⊥) w.0 w.1))
+      let n : ((read_text s).answer.number ≡ 0 → ⊥) = subst (λ (x : Answer). x.number ≡ 0 → ⊥) w.0 w.1 in
+      refused s a v u k (sym (then_no (read_text s).answer rest n) ∙ sym w.0) w.1 (as_read ∙ text_clear s n)
 
-  module _ (q : r ≡ Ok tt) {p : Result Unit Answer} (ep : p ≡ outcome (check (program (tables_of Z N R D L B)))) where
-    judged : (checked s).verdict ≡ check (program (tables_of Z N R D L B))
+  module _ (q : r ≡ Ok tt) {p : Result Unit Answer} (ep : p ≡ outcome (check (program u))) where
+    judged : (checked s).verdict ≡ check (program u)
     unfolding checked
-    judged = outcome_on (read_text s).answer rest (sym q ∙ answered) ∙ sym (ap (λ (u : Tables). check (program u)) as_read)
+    judged = outcome_on (read_text s).answer rest (sym q ∙ answered) ∙ sym (ap (λ (x : Tables). check (program x)) as_read)
 
-    pub by_program : {a : Answer} → p ≡ Err a → {v : Verdict} → v ≡ case_of a → {Z2 N2 R2 D2 L2 B2 : List ℕ} → tables_of Z2 N2 R2 D2 L2 B2 ≡ zeros → Says (checked s) v Z2 N2 R2 D2 L2 B2
-    by_program {a} y {v} k z = let w = same (sym y ∙ ep) in refused _ _ _ _ _ _ s a v k (judged ∙ sym w.0) w.1 z
+    pub by_program : {a : Answer} → p ≡ Err a → {v : Verdict} → v ≡ case_of a → {x : Tables} → x ≡ zeros → Says (checked s) v x
+    by_program {a} y {v} k {x} z = let w = same (sym y ∙ ep) in refused s a v x k (judged ∙ sym w.0) w.1 z
 
-    pub by_neither : p ≡ Ok tt → Says (checked s) C.Accepted Z N R D L B
-    by_neither y = passed Z N R D L B s _ judged (accepts _ (sym y ∙ ep)) as_read
+    pub by_neither : p ≡ Ok tt → Says (checked s) C.Accepted u
+    by_neither y = passed s _ u judged (accepts _ (sym y ∙ ep)) as_read

@@ -1,6 +1,7 @@
 -- What the checker answers has the number and the line of the rules. Assumes nothing.
 use Rattle.std.specs.Prelude.{◌≡◌}
 use Rattle.rules.specs.Prelude.{ℕ, List, ap, ◌∙◌}
+use Rattle.rules.specs.declared.Tables.{Tables}
 use Rattle.rules.specs.declared.Verdict.{Verdict}
 use Rattle.rules.specs.Answers.{answer_of, case_of}
 use Rattle.rules.specs.Check.{checked, verdict}
@@ -12,6 +13,6 @@ pub answered : (s : List ℕ) (v : Verdict) → v ≡ case_of (verdict s) → an
 answered s v e = ap answer_of e ∙ told_verdict s
 
 -- by the contract of `check`
-pub said : (s : List ℕ) (v : Verdict) (Z N R D L B : List ℕ) → Says (checked s) v Z N R D L B → answer_of v ≡ verdict s
+pub said : (s : List ℕ) (v : Verdict) (t : Tables) → Says (checked s) v t → answer_of v ≡ verdict s
 unfolding verdict
-said s v Z N R D L B h = answered s v h.answer
+said s v t h = answered s v h.answer

@@ -26,6 +26,8 @@ use Rattle.rules.proofs.Laws.Told.{cases_apart}
 use Rattle.rules.proofs.Exactly.Derivable.{text_exactly}
 use Rattle.rules.proofs.Sound.StepTables.{Roomy}
 use Rattle.table.proofs.Passes.{refuses}
+use Rattle.rules.specs.declared.Tables.{Tables}
+use Rattle.rules.specs.declared.StoreTables.{StoreTables}
 use Rattle.program.specs.Lines.{tables_of}
 use Rattle.checker.specs.Says as C
 use Rattle.checker.specs.Verdicts.{said}
@@ -44,19 +46,18 @@ use Rattle.demands.specs.Laws.{kept_zero, one_step, ran_on, fine}
 
 pub record AnyTextIsAnswered : Type 0 where
   -- checker::check
-  pub refused_zero : (s : List ℕ) (v : Verdict) (Z N R D L B : List ℕ) → C.Says (checked s) v Z N R D L B → (v ≡ K.Accepted → ⊥) → tables_of Z N R D L B ≡ zeros
+  pub refused_zero : (s : List ℕ) (v : Verdict) (t : Tables) → C.Says (checked s) v t → (v ≡ K.Accepted → ⊥) → t ≡ zeros
   -- store::read. The program's tables are only read
-  pub refused_store_zero : (P : Prog) (s : List ℕ) (a : Answer) (Z H C W : List ℕ) → S.Says (read_store P s) (Err a) Z H C W → S.tables_are Z H C W ≡ no_store_tables
+  pub refused_store_zero : (P : Prog) (s : List ℕ) (a : Answer) (t : StoreTables) → S.Says (read_store P s) (Err a) t → t ≡ no_store_tables
   -- machine::step
   pub stuck_changes_nothing : (Z N L B S H : List ℕ) (m m' : Machine) (r : Stepped) → Steps Z N L B S H m r m' → r ≡ T.Stuck → m' ≡ m
 
 pub demand1 : AnyTextIsAnswered
 demand1 = record {
-  refused_zero = λ s v Z N R D L B h ruled.
-      let z : ((verdict s).number ≡ 0 → ⊥) = λ e. ruled (cases_apart v K.Accepted (said s v Z N R D L B h ∙ verdict_plain s e)) in
-      rw (h.size, h.nodes, h.rows, h.vars, h.labels, h.body) (refused_tables s z);
-  refused_store_zero = λ P s a Z H C W h.
-      rw (h.size, h.heads, h.cells, h.vals) (kept_zero P s (refuses (read_store P s).answer h.answer).0);
+  refused_zero = λ s v t h ruled.
+      let z : ((verdict s).number ≡ 0 → ⊥) = λ e. ruled (cases_apart v K.Accepted (said s v t h ∙ verdict_plain s e)) in
+      h.tables ∙ refused_tables s z;
+  refused_store_zero = λ P s a t h. h.tables ∙ kept_zero P s (refuses (read_store P s).answer h.answer).0;
   stuck_changes_nothing = λ Z N L B S H m m' r h e.
       (h [] []).1 ∙ ap (lent_to m) (step_rests (lines Z N L B [] []) (tables_in S H m) (subst Rests (sym e ∙ (h [] []).0) tt));
 }
@@ -65,9 +66,9 @@ demand1 = record {
 
 pub record VerdictAndStepsAreTheRules : Type 0 where
   -- checker::check: the number and the line
-  pub verdict_of_the_rules : (s : List ℕ) (v : Verdict) (Z N R D L B : List ℕ) → C.Says (checked s) v Z N R D L B → answer_of v ≡ verdict s
+  pub verdict_of_the_rules : (s : List ℕ) (v : Verdict) (t : Tables) → C.Says (checked s) v t → answer_of v ≡ verdict s
   -- accepted exactly if the text reads, what it names is there, and every statement is derivable
-  pub accepted_exactly : (s : List ℕ) (v : Verdict) (Z N R D L B : List ℕ) → C.Says (checked s) v Z N R D L B
+  pub accepted_exactly : (s : List ℕ) (v : Verdict) (t : Tables) → C.Says (checked s) v t
       → (v ≡ K.Accepted) ↔ (((read_text s).answer ≡ accepted) × (names (read_as s) ≡ accepted) × Derivable (read_as s))
   -- machine::step, on tables of their fixed lengths, while the budget lasts
   pub step_of_the_machine : (Z N R D L B S H : List ℕ) (m m' : Machine) (r : Stepped) → Steps Z N L B S H m r m' → Roomy (tables_in S H m) → (r ≡ T.Spent → ⊥)
@@ -79,9 +80,9 @@ pub record VerdictAndStepsAreTheRules : Type 0 where
 pub demand2 : VerdictAndStepsAreTheRules
 demand2 = record {
   verdict_of_the_rules = said;
-  accepted_exactly = λ s v Z N R D L B h. (
-    (λ e. (text_exactly s).0 (sym (said s v Z N R D L B h) ∙ ap answer_of e)),
-    λ d. cases_apart v K.Accepted (said s v Z N R D L B h ∙ (text_exactly s).1 d),
+  accepted_exactly = λ s v t h. (
+    (λ e. (text_exactly s).0 (sym (said s v t h) ∙ ap answer_of e)),
+    λ d. cases_apart v K.Accepted (said s v t h ∙ (text_exactly s).1 d),
   );
   step_of_the_machine = one_step;
   run_of_the_machine = λ Z N R D L B t r C W h room. ap (machine (lines Z N L B R D)) (h R D).1 ∙ ran_on (tables_of Z N R D L B) t room;

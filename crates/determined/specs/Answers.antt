@@ -8,7 +8,6 @@ use Rattle.checker.specs.Says.{Says}
 use Rattle.runner.specs.declared.Ran.{Ran}
 use Rattle.runner.specs.Ran as R
 use Rattle.determined.specs.Determined.{Determined, one, result, both, skip}
-use Rattle.determined.specs.Tables.{Six, six}
 use Rattle.answers.specs.contracts as answers_clauses
 use Rattle.answers.proofs as answers
 use Rattle.checker.specs.contracts as checker_clauses
@@ -21,10 +20,6 @@ use Rattle.told.specs.contracts as told_clauses
 use Rattle.told.proofs as told
 use Rattle.export.specs.contracts as export_clauses
 use Rattle.export.proofs as export
-
--- the six tables that a check leaves
-left : {c : Checked} {v : Verdict} {Z N R D L B : List ℕ} → Says c v Z N R D L B → ◌≡◌ {A = Six} (Z, (N, (R, (D, (L, (B, tt)))))) (six c.tables)
-left h i = (h.size i, (h.nodes i, (h.rows i, (h.vars i, (h.labels i, (h.body i, tt))))))
 
 -- what is told of a run says which run it is: no two cases have the same answer
 told_apart : {r q : Ran} → R.told r ≡ R.told q → r ≡ q
@@ -41,7 +36,7 @@ answers_answer_of κs a x y s t = result
 -- ---- checker
 
 pub checker_check : Determined checker_clauses.check.ended checker.check.Reads.Learnt
-checker_check κs a x y s t h k = (one h.answer k.answer, skip (one (left h) (left k)))
+checker_check κs a x y s t h k = (one h.answer k.answer, skip (both (one h.tables k.tables) refl))
 
 pub checker_answer : Determined checker_clauses.answer.ended checker.answer.Reads.Learnt
 checker_answer κs a x y s t = result

@@ -9,7 +9,6 @@ use Rattle.once.specs.Once.{Onced, once as made}
 use Rattle.reader.specs.Read.{Holds}
 use Rattle.store.specs.Says.{Says}
 use Rattle.determined.specs.Determined.{Determined, one, result, both, skip}
-use Rattle.determined.specs.Tables.{Six, six}
 use Rattle.names.specs.contracts as names_clauses
 use Rattle.names.proofs as names
 use Rattle.once.specs.contracts as once_clauses
@@ -22,17 +21,6 @@ use Rattle.fits.specs.contracts as fits_clauses
 use Rattle.fits.proofs as fits
 use Rattle.store.specs.contracts as store_clauses
 use Rattle.store.proofs as store
-
--- the six tables that a glue text leaves
-left : {o : TextOut} {a : Result Unit Answer} {Z N R D L B : List ℕ} → Holds o a Z N R D L B → ◌≡◌ {A = Six} (Z, (N, (R, (D, (L, (B, tt)))))) (six o.tables)
-left h i = (h.size i, (h.nodes i, (h.rows i, (h.vars i, (h.labels i, (h.body i, tt))))))
-
--- the four that a store text leaves
-abbrev Four : Type 0
-Four = List ℕ × (List ℕ × (List ℕ × (List ℕ × Unit {0})))
-
-left_store : {o : StoreOut} {a : Result Unit Answer} {Z H C W : List ℕ} → Says o a Z H C W → ◌≡◌ {A = Four} (Z, (H, (C, (W, tt)))) (o.tables.size, (o.tables.heads, (o.tables.cells, (o.tables.vals, tt))))
-left_store h i = (h.size i, (h.heads i, (h.cells i, (h.vals i, tt))))
 
 -- ---- names
 
@@ -59,7 +47,7 @@ once_line_once κs a x y s t h k =
 -- ---- reader
 
 pub reader_read : Determined reader_clauses.read.ended reader.read.Reads.Learnt
-reader_read κs a x y s t h k = (one h.answer k.answer, skip (one (left h) (left k)))
+reader_read κs a x y s t h k = (one h.answer k.answer, skip (both (one h.tables k.tables) refl))
 
 -- ---- tally
 
@@ -83,4 +71,4 @@ fits_fitted κs a x y s t h k = result (h [] [] []) (k [] [] [])
 -- ---- store
 
 pub store_read : Determined store_clauses.read.ended store.read.Reads.Learnt
-store_read κs a x y s t h k = (one (h [] [] []).answer (k [] [] []).answer, skip (skip (skip (skip (one (left_store (h [] [] [])) (left_store (k [] [] [])))))))
+store_read κs a x y s t h k = (one (h [] [] []).answer (k [] [] []).answer, skip (skip (skip (skip (both (one (h [] [] []).tables (k [] [] []).tables) refl)))))

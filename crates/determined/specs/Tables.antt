@@ -4,7 +4,6 @@ use denote.RattleType.{RattleType}
 use mir.Syntax.{Dict}
 use Rattle.std.specs.declared.clone.Clone.{Ghosts}
 use Rattle.rules.specs.Prelude.{ℕ, List, [], refl, ap}
-use Rattle.rules.specs.declared.Tables.{Tables}
 use Rattle.determined.specs.Determined.{Determined, one, result, lent}
 use Rattle.table.specs.contracts as table_clauses
 use Rattle.table.proofs as table
@@ -12,13 +11,6 @@ use Rattle.program.specs.contracts as program_clauses
 use Rattle.program.proofs as program
 use Rattle.storage.specs.contracts as storage_clauses
 use Rattle.storage.proofs as storage
-
--- the six tables of a program, as they are lent
-abbrev pub Six : Type 0
-Six = List ℕ × (List ℕ × (List ℕ × (List ℕ × (List ℕ × (List ℕ × Unit {0})))))
-
-abbrev pub six : Tables → Six
-six t = (t.size, (t.nodes, (t.rows, (t.vars, (t.labels, (t.body, tt))))))
 
 -- ---- table
 
@@ -145,7 +137,7 @@ pub program_put_sizes : Determined program_clauses.put_sizes.ended program.put_s
 program_put_sizes κs a x y s t = lent
 
 pub program_clear : Determined program_clauses.clear.ended program.clear.Reads.Learnt
-program_clear κs a x y s t h k = (refl, ap six (one h k))
+program_clear κs a x y s t = lent
 
 -- ---- storage
 

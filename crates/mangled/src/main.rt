@@ -5,7 +5,7 @@
 #![tactic(auto)]
 
 use moves::Moved;
-use rules::Stepped;
+use rules::{Stepped, StoreTables, Tables};
 
 // The standard input and output, as the system numbers them.
 const STDIN_FILENO: i32 = 0;
@@ -49,111 +49,85 @@ impl Part {
 
 // The tables of a program and of a store that a run takes.
 #[derive(Clone, Copy)]
-struct Tables {
-    size: [u32; 6],
-    nodes: [u64; 4096],
-    labels: [u64; 6208],
-    body: [u32; 2560],
-    store: [u32; 2],
-    heads: [u32; 768],
-    cells: [u64; 4352],
-    vals: [u64; 32],
+struct Lent {
+    program: Tables,
+    store: StoreTables,
 }
 
-impl Tables {
-    // As a glue text and a store text give them.
-    fn read(glue: &[u8], blocks: &[u8]) -> Tables {
-        let mut t = Tables {
+impl Lent {
+    // As a glue text and a store text give them. What is refused leaves tables that are zero, and the run goes on over these.
+    fn read(glue: &[u8], blocks: &[u8]) -> Lent {
+        let mut program = Tables {
             size: [0; 6],
             nodes: [0; 4096],
+            rows: [0; 17536],
+            vars: [0; 96],
             labels: [0; 6208],
             body: [0; 2560],
-            store: [0; 2],
+        };
+        let mut store = StoreTables {
+            size: [0; 2],
             heads: [0; 768],
             cells: [0; 4352],
             vals: [0; 32],
         };
-        t.read_over(glue, blocks);
-        t
-    }
-
-    // What is refused leaves tables that are zero, and the run goes on over these.
-    fn read_over(&mut self, glue: &[u8], blocks: &[u8]) {
-        let mut rows = [0u32; 17536];
-        let mut vars = [0u32; 96];
-        checker::check(
-            glue,
-            &mut self.size,
-            &mut self.nodes,
-            &mut rows,
-            &mut vars,
-            &mut self.labels,
-            &mut self.body,
-        );
-        let _answer = store::read(
-            blocks,
-            &self.size,
-            &rows,
-            &vars,
-            &mut self.store,
-            &mut self.heads,
-            &mut self.cells,
-            &mut self.vals,
-        );
+        checker::check(glue, &mut program);
+        let _answer = store::read(blocks, &program.size, &program.rows, &program.vars, &mut store);
+        Lent { program, store }
     }
 
     // One number everywhere in one table, or in all.
     fn fill(&mut self, part: Part, x: u64) {
         if part.takes_in(Part::Size) {
-            self.size = [low_half(x); 6];
+            self.program.size = [low_half(x); 6];
         }
         if part.takes_in(Part::Nodes) {
-            self.nodes = [x; 4096];
+            self.program.nodes = [x; 4096];
         }
         if part.takes_in(Part::Labels) {
-            self.labels = [x; 6208];
+            self.program.labels = [x; 6208];
         }
         if part.takes_in(Part::Body) {
-            self.body = [low_half(x); 2560];
+            self.program.body = [low_half(x); 2560];
         }
         if part.takes_in(Part::Store) {
-            self.store = [low_half(x); 2];
+            self.store.size = [low_half(x); 2];
         }
         if part.takes_in(Part::Heads) {
-            self.heads = [low_half(x); 768];
+            self.store.heads = [low_half(x); 768];
         }
         if part.takes_in(Part::Cells) {
-            self.cells = [x; 4352];
+            self.store.cells = [x; 4352];
         }
         if part.takes_in(Part::Vals) {
-            self.vals = [x; 32];
+            self.store.vals = [x; 32];
         }
     }
 
     // The generator's number is handed from table to table. The budget is kept below 64, so that each run ends soon.
     fn mangle(&mut self, all: bool, x: u64) -> u64 {
-        let x = mangle(&mut self.size, all, x);
-        let x = mangle(&mut self.nodes, all, x);
-        let x = mangle(&mut self.labels, all, x);
-        let x = mangle(&mut self.body, all, x);
-        let x = mangle(&mut self.store, all, x);
-        let x = mangle(&mut self.heads, all, x);
-        let x = mangle(&mut self.cells, all, x);
-        let x = mangle(&mut self.vals, all, x);
-        self.store[0] = (x % 64) as u32;
+        let x = mangle(&mut self.program.size, all, x);
+        let x = mangle(&mut self.program.nodes, all, x);
+        let x = mangle(&mut self.program.labels, all, x);
+        let x = mangle(&mut self.program.body, all, x);
+        let x = mangle(&mut self.store.size, all, x);
+        let x = mangle(&mut self.store.heads, all, x);
+        let x = mangle(&mut self.store.cells, all, x);
+        let x = mangle(&mut self.store.vals, all, x);
+        self.store.size[0] = (x % 64) as u32;
         next(x)
     }
 
     fn run(&mut self, at: usize, steps: u32, value: u64) -> Moved {
         machine::run(
-            &self.size,
-            &self.nodes,
-            &self.labels,
-            &self.body,
-            &self.store,
-            &self.heads,
-            &mut self.cells,
-            &mut self.vals,
+            &self.program.size,
+            &self.program.nodes,
+            &self.program.labels,
+            &self.program.body,
+            &self.store.size,
+            &self.store.heads,
+            &mut self.store.cells,
+            &mut self.store.vals,
             at,
             steps,
             value,
@@ -180,7 +154,7 @@ fn low_half(x: u64) -> u32 {
 fn line(pattern: &[u8], x: u64, name: &[u8], part: Part) {
     io::write_all(STDOUT_FILENO, pattern);
     io::write_all(STDOUT_FILENO, name);
-    let mut t = Tables::read(&SUM_GLUE, &SUM_STORE);
+    let mut t = Lent::read(&SUM_GLUE, &SUM_STORE);
     t.fill(part, x);
     let at = if part == Part::At { x as usize } else { 0 };
     let value = if part == Part::Value { x } else { 0 };
@@ -333,7 +307,7 @@ impl Tally {
     }
 
     // The line, the count of steps and the returned value are drawn too.
-    fn run(&mut self, t: &mut Tables) {
+    fn run(&mut self, t: &mut Lent) {
         let a = next(self.drawn);
         let b = next(a);
         let c = next(b);
@@ -345,7 +319,7 @@ impl Tally {
 
     // Machines that start from the tables of two texts, which are copied and mangled for each.
     fn run_from(&mut self, count: u64, glue: &[u8], blocks: &[u8]) {
-        let start = Tables::read(glue, blocks);
+        let start = Lent::read(glue, blocks);
         for _ in 0..count {
             let mut t = start;
             let all = self.drawn % 64 == 0;

@@ -300,7 +300,7 @@ pub struct Count {
 }
 
 // The tables of a program: size (kind code of `ret`, rows, variables, labels, body lines, nodes), and a table for each kind of thing.
-#[derive(Drop)]
+#[derive(Clone, Copy)]
 pub struct Tables {
     pub size: [u32; 6],
     pub nodes: [u64; 4096],
@@ -311,7 +311,7 @@ pub struct Tables {
 }
 
 // The tables of a store: size (budget, blocks), the blocks' heads and cells, and what the variables hold.
-#[derive(Drop)]
+#[derive(Clone, Copy)]
 pub struct StoreTables {
     pub size: [u32; 2],
     pub heads: [u32; 768],

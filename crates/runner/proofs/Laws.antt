@@ -21,7 +21,8 @@ use Rattle.rules.specs.Machine.Tables.{datum_code, run_t, run_within}
 use Rattle.rules.specs.Store.{read_store}
 use Rattle.rules.specs.Run.{Result, refused, result_of, run_store, run_checked, glue_bytes}
 use Rattle.rules.proofs.Laws.Told.{told_verdict, told_store}
-use Rattle.program.specs.Lines.{tables_of}
+use Rattle.rules.specs.declared.Tables.{Tables}
+use Rattle.rules.specs.declared.StoreTables.{StoreTables}
 use Rattle.table.proofs.Passes.{accepts, refuses}
 use Rattle.checker.specs.Says as C
 use Rattle.store.specs.Says as S
@@ -38,13 +39,13 @@ store_refused P s a v x e h r =
     let told : answer_of v ≡ (read_store P s).answer = ap answer_of (h ∙ ap case_of same) ∙ told_store P s in
     rw (ne_eqb _ _ w.0) (r ∙ ap refused told)
 
-pub store_ran : (P : Prog) (s : List ℕ) (a : Std.Result Unit Answer) (Z H C W : List ℕ) → S.Says (read_store P s) a Z H C W → a ≡ Ok tt → (x : Result) (C' W' : List ℕ) (i n v : ℕ)
-    → parts Z H C' W' i n v ≡ run_within P (parts Z H C W 0 0 0) → x ≡ ended n (datum_code v) → x ≡ run_store P (read_store P s)
+pub store_ran : (P : Prog) (s : List ℕ) (a : Std.Result Unit Answer) (t : StoreTables) → S.Says (read_store P s) a t → a ≡ Ok tt → (x : Result) (C' W' : List ℕ) (i n v : ℕ)
+    → parts t.size t.heads C' W' i n v ≡ run_within P (parts t.size t.heads t.cells t.vals 0 0 0) → x ≡ ended n (datum_code v) → x ≡ run_store P (read_store P s)
 unfolding run_within
-store_ran P s a Z H C W h z x C' W' i n v e r =
+store_ran P s a t h z x C' W' i n v e r =
     let ok : (read_store P s).answer.number ≡ 0 = accepts (read_store P s).answer (sym z ∙ h.answer) in
-    let none : get_or Z 0 0 - 0 ≡ get_or Z 0 0 = omega lin in
-    rw (eq-eqb _ _ ok, sym h.size, sym h.heads, sym h.cells, sym h.vals) (r ∙ ap result_of (e ∙ ap (λ (k : ℕ). run_t P k (parts Z H C W 0 0 0)) none))
+    let none : get_or t.size 0 0 - 0 ≡ get_or t.size 0 0 = omega lin in
+    rw (eq-eqb _ _ ok, sym h.tables) (r ∙ ap result_of (e ∙ ap (λ (k : ℕ). run_t P k (parts t.size t.heads t.cells t.vals 0 0 0)) none))
 
 -- ---- the glue
 
@@ -61,14 +62,13 @@ rest_is n s h =
     let whole = sym (length_app (take n s) (drop n s)) ∙ ap (λ (l : List ℕ). length l) (take-append-drop n s) in
     take_all (length s - n) (drop n s) (omega (lin, whole, length-take-le n s h))
 
-pub glue_ran : (t t' s : List ℕ) → t ≡ t' → (v : Verdict) (Z N R D L B : List ℕ) → C.Says (checked s) v Z N R D L B → (a : Answer) → a ≡ answer_of v → a.number ≡ 0 → (x : Result)
-    → x ≡ run_store (program (tables_of Z N R D L B)) (read_store (program (tables_of Z N R D L B)) t) → x ≡ run_checked t' (checked s)
+pub glue_ran : (t t' s : List ℕ) → t ≡ t' → (v : Verdict) (u : Tables) → C.Says (checked s) v u → (a : Answer) → a ≡ answer_of v → a.number ≡ 0 → (x : Result)
+    → x ≡ run_store (program u) (read_store (program u) t) → x ≡ run_checked t' (checked s)
 unfolding verdict
-glue_ran t t' s p v Z N R D L B h a e z x r =
+glue_ran t t' s p v u h a e z x r =
     let told : a ≡ (checked s).verdict = e ∙ ap answer_of h.answer ∙ told_verdict s in
     let ok : (checked s).verdict.number ≡ 0 = ap (λ (b : Answer). b.number) (sym told) ∙ z in
-    let same : tables_of Z N R D L B ≡ (checked s).tables = λ i. tables_of (h.size i) (h.nodes i) (h.rows i) (h.vars i) (h.labels i) (h.body i) in
-    rw (eq-eqb _ _ ok) (r ∙ (λ i. run_store (program (same i)) (read_store (program (same i)) (p i))))
+    rw (eq-eqb _ _ ok) (r ∙ (λ i. run_store (program (h.tables i)) (read_store (program (h.tables i)) (p i))))
 
 -- ---- the glue is a part of the text
 

@@ -8,10 +8,9 @@ ghost use Rattle.rules.specs.Machine.Tables.{datum_code};
 ghost use Rattle.rules.specs.Store.{read_store};
 ghost use Rattle.rules.specs.Check.{checked};
 ghost use Rattle.rules.specs.Run.{state_of, refused, run_store, run_checked, running};
-ghost use Rattle.program.specs.Lines.{tables_of};
 ghost use Rattle.runner.specs.Ran.{told, ended};
 
-use rules::{Given, State, Verdict};
+use rules::{Given, State, StoreTables, Tables, Verdict};
 
 // The answer to the glue or, if that is accepted, to the store; and how the run stands.
 #[derive(Drop)]
@@ -57,29 +56,30 @@ fn outcome(steps: u32, code: u64) -> Ran
 }
 
 // A store text beside a program that was accepted.
-#[tactic(auto, using(crate::proofs::Laws::store_refused, crate::proofs::Laws::store_ran))]
-fn run_store(
-    s: &[u8],
-    size: &[u32; 6],
-    nodes: &[u64; 4096],
-    rows: &[u32; 17536],
-    vars: &[u32; 96],
-    labels: &[u64; 6208],
-    body: &[u32; 2560],
-) -> Ran
-    ensures { told result ≡ run_store (program (tables_of size.now nodes.now rows.now vars.now labels.now body.now)) (read_store (program (tables_of size.now nodes.now rows.now vars.now labels.now body.now)) s.now) }
+fn run_store(s: &[u8], t: &Tables) -> Ran
+    ensures { told result ≡ run_store (program t.now) (read_store (program t.now) s.now) }
 {
-    let mut store = [0u32; 2];
-    let mut heads = [0u32; 768];
-    let mut cells = [0u64; 4352];
-    let mut vals = [0u64; 32];
-    if let Err(a) = store::read(
-        s, size, rows, vars, &mut store, &mut heads, &mut cells, &mut vals,
-    ) {
+    let mut store = StoreTables {
+        size: [0; 2],
+        heads: [0; 768],
+        cells: [0; 4352],
+        vals: [0; 32],
+    };
+    if let Err(a) = store::read(s, &t.size, &t.rows, &t.vars, &mut store) {
         return refuse(answers::case_of(a));
     }
     let m = machine::run(
-        size, nodes, labels, body, &store, &heads, &mut cells, &mut vals, 0, 0, 0,
+        &t.size,
+        &t.nodes,
+        &t.labels,
+        &t.body,
+        &store.size,
+        &store.heads,
+        &mut store.cells,
+        &mut store.vals,
+        0,
+        0,
+        0,
     );
     outcome(m.steps, m.value)
 }
@@ -90,26 +90,20 @@ fn run_parts(s: &[u8], n: usize) -> Ran
     requires { n ≤ length s.now }
     ensures { told result ≡ run_checked (drop n s.now) (checked (take n s.now)) }
 {
-    let mut size = [0u32; 6];
-    let mut nodes = [0u64; 4096];
-    let mut rows = [0u32; 17536];
-    let mut vars = [0u32; 96];
-    let mut labels = [0u64; 6208];
-    let mut body = [0u32; 2560];
-    let v = checker::check(
-        &s[..n],
-        &mut size,
-        &mut nodes,
-        &mut rows,
-        &mut vars,
-        &mut labels,
-        &mut body,
-    );
+    let mut t = Tables {
+        size: [0; 6],
+        nodes: [0; 4096],
+        rows: [0; 17536],
+        vars: [0; 96],
+        labels: [0; 6208],
+        body: [0; 2560],
+    };
+    let v = checker::check(&s[..n], &mut t);
     let a = answers::answer_of(v);
     if a.number != 0 {
         return refuse(v);
     }
-    run_store(&s[n..], &size, &nodes, &rows, &vars, &labels, &body)
+    run_store(&s[n..], &t)
 }
 
 #[tactic(auto, using(crate::proofs::Laws::glue_within), unfolding(rules::specs::Run::running, rules::specs::Run::glue_of, rules::specs::Run::store_text_of))]

@@ -2,7 +2,6 @@
 use Rattle.std.specs.Prelude.{Err}
 use Rattle.std.proofs.Common.{sym, ◌∙◌}
 use Rattle.std.proofs.lemmas.Result.{err_from_is_err_and}
-use Rattle.program.specs.Lines.{tables_of}
 use Rattle.checker.proofs.Laws.{by_names, by_types, by_ends}
 use Rattle.checker.proofs.program_judged.Goals as goal
 
@@ -17,4 +16,4 @@ returns-in_err-typed c =
     rw (p.1, p.2) (by_types _ c.typed-typed.ensures c.is_err.ensures.value (sym c.in_ok-named.was ∙ c.named.ensures) c.in_err-typed.was)
 
 pub returns : goal.returns
-returns c = by_ends _ c.typed-typed.ensures c.is_err.ensures.value (sym c.in_ok-named.was ∙ c.named.ensures) c.in_ok-typed.was (c.ended.ensures c.args.rows.now c.args.vars.now c.args.labels.now c.args.nodes.now)
+returns c = by_ends _ c.typed-typed.ensures c.is_err.ensures.value (sym c.in_ok-named.was ∙ c.named.ensures) c.in_ok-typed.was (c.ended.ensures c.args.t.now.rows c.args.t.now.vars c.args.t.now.labels c.args.t.now.nodes)

@@ -4,4 +4,4 @@ use Rattle.runner.proofs.run_parts.Goals as goal
 
 pub returns : goal.returns
 returns c =
-    glue_ran _ _ _ (rest_is c.args.n c.args.s.now c.requires) _ _ _ _ _ _ _ c.check-v.ensures _ c.answer_of-a.ensures c.if-a-ne0.false _ c.run_store.ensures
+    glue_ran _ _ _ (rest_is c.args.n c.args.s.now c.requires) _ _ c.check-v.ensures _ c.answer_of-a.ensures c.if-a-ne0.false _ c.run_store.ensures
