@@ -11,11 +11,12 @@ use Rattle.rules.specs.Answers.{answer, accepted, and_then, first}
 use Rattle.rules.specs.Program.{Prog, Rows, Var, loosest, field_of, kind_at}
 use Rattle.rules.specs.Environments.{no_var}
 use Rattle.rules.specs.Machine.{Store, block_at, row_in, tag_in, cells_in, cell_at, ev_var}
-use Rattle.rules.specs.Machine.Tables.{store_of, vals_of}
+use Rattle.rules.specs.Machine.Tables.{vals_of}
 use Rattle.rules.specs.Fits.{fits, cells_fit, block_number, arg_numbers}
 use Rattle.rules.specs.declared.StoreTables.{StoreTables}
 use Rattle.rules.specs.Store.{store_fits}
 use Rattle.rules.proofs.Sound.StepTables.{vals_length}
+use Rattle.fits.specs.Blocks.{store_in}
 use Rattle.table.proofs.Passes.{left_more, left_none, all_on, all_no, first_append, then_on, then_no}
 
 -- ---- a block
@@ -72,13 +73,13 @@ module _ (ρ : Rows) (s : Store) (D : List Var) (W : List ℕ) (at v n : ℕ) (e
 
 -- ---- the block lines, then the argument lines
 
-module _ (P : Prog) (o : StoreTables) (σ : Store) (es : σ ≡ store_of o.size o.heads o.cells) (a : Answer) (ea : a ≡ first 2 (map (block_number P.rows σ) σ)) where
-  from_blocks : store_fits P o ≡ and_then a (λ _. first (2 + length σ) (arg_numbers P.rows σ P.vars (vals_of (length P.vars) o.vals)))
+module _ (P : Prog) (o : StoreTables) (a : Answer) (ea : a ≡ first 2 (map (block_number P.rows (store_in o)) (store_in o))) where
+  from_blocks : store_fits P o ≡ and_then a (λ _. first (2 + length (store_in o)) (arg_numbers P.rows (store_in o) P.vars (vals_of (length P.vars) o.vals)))
   unfolding store_fits
-  from_blocks = rw (sym es, ea, sym (length-map σ (block_number P.rows σ))) (first_append 2 (map (block_number P.rows σ) σ) _)
+  from_blocks = rw (ea, sym (length-map (store_in o) (block_number P.rows (store_in o)))) (first_append 2 (map (block_number P.rows (store_in o)) (store_in o)) _)
 
   pub fits_blocks : (a.number ≡ 0 → ⊥) → a ≡ store_fits P o
   fits_blocks z = rw from_blocks (then_no a _ z)
 
-  pub fits_args : a.number ≡ 0 → (n : ℕ) → n ≡ length σ → (r : Answer) → r ≡ first (2 + n) (arg_numbers P.rows σ P.vars (vals_of (length P.vars) o.vals)) → r ≡ store_fits P o
+  pub fits_args : a.number ≡ 0 → (n : ℕ) → n ≡ length (store_in o) → (r : Answer) → r ≡ first (2 + n) (arg_numbers P.rows (store_in o) P.vars (vals_of (length P.vars) o.vals)) → r ≡ store_fits P o
   fits_args z n en r er = rw (from_blocks, then_on a _ z, sym en) er

@@ -12,9 +12,9 @@ ghost use Rattle.rules.specs.Machine.Tables.{store_of, vals_of};
 ghost use Rattle.rules.specs.Fits.{fits_imm, fits_place, fits, right_shape, block_number, arg_numbers};
 ghost use Rattle.rules.specs.Store.{store_fits};
 ghost use Rattle.program.specs.Lines.{tables_of};
-ghost use Rattle.fits.specs.Blocks.{block_fits, numbered};
+ghost use Rattle.fits.specs.Blocks.{block_fits, numbered, store_in};
 
-use rules::{Answer, Datum, Given, Kind, Num};
+use rules::{Answer, Datum, Given, Kind, Num, StoreTables};
 
 // ---- data
 
@@ -76,22 +76,15 @@ fn right_shape(
 
 // Every cell of block k fits the row of its field.
 #[tactic(auto, using(crate::proofs::Laws::cells_done, crate::proofs::Laws::cells_no, crate::proofs::Laws::cells_on_lem))]
-fn cells_fit(
-    size: &[u32; 6],
-    rows: &[u32; 17536],
-    store: &[u32; 2],
-    heads: &[u32; 768],
-    cells: &[u64; 4352],
-    k: usize,
-) -> bool
-    ensures { result ≡ block_fits (rows_from size.now rows.now) (store_of store.now heads.now cells.now) k }
+fn cells_fit(size: &[u32; 6], rows: &[u32; 17536], t: &StoreTables, k: usize) -> bool
+    ensures { result ≡ block_fits (rows_from size.now rows.now) (store_in t.now) k }
 {
-    let r = storage::block_row(store, heads, k);
-    let t = storage::block_tag(store, heads, k) as usize;
-    for o in 0..storage::cell_count(store, heads, k) {
-        let q = program::field_of(size, rows, r, t, o);
-        let g = storage::cell_at(store, heads, cells, k, o);
-        if !given_fits(size, rows, store, heads, Kind::Value(q), g) {
+    let row = storage::block_row(&t.size, &t.heads, k);
+    let tag = storage::block_tag(&t.size, &t.heads, k) as usize;
+    for o in 0..storage::cell_count(&t.size, &t.heads, k) {
+        let q = program::field_of(size, rows, row, tag, o);
+        let g = storage::cell_at(&t.size, &t.heads, &t.cells, k, o);
+        if !given_fits(size, rows, &t.size, &t.heads, Kind::Value(q), g) {
             return false;
         }
     }
@@ -100,20 +93,13 @@ fn cells_fit(
 
 // Block k fits its row, or the number of its answer.
 #[tactic(auto, unfolding(rules::specs::Fits::block_number))]
-fn fit_block(
-    size: &[u32; 6],
-    rows: &[u32; 17536],
-    store: &[u32; 2],
-    heads: &[u32; 768],
-    cells: &[u64; 4352],
-    k: usize,
-) -> Result<(), u32>
-    ensures { result ≡ numbered (block_number (rows_from size.now rows.now) (store_of store.now heads.now cells.now) (block_at (store_of store.now heads.now cells.now) k)) }
+fn fit_block(size: &[u32; 6], rows: &[u32; 17536], t: &StoreTables, k: usize) -> Result<(), u32>
+    ensures { result ≡ numbered (block_number (rows_from size.now rows.now) (store_in t.now) (block_at (store_in t.now) k)) }
 {
-    if !right_shape(size, rows, store, heads, k) {
+    if !right_shape(size, rows, &t.size, &t.heads, k) {
         return Err(25);
     }
-    if !cells_fit(size, rows, store, heads, cells, k) {
+    if !cells_fit(size, rows, t, k) {
         return Err(26);
     }
     Ok(())
@@ -121,17 +107,11 @@ fn fit_block(
 
 // The block lines follow line 1.
 #[tactic(auto, using(storage::proofs::Laws::blocks_small, table::proofs::Passes::lines_done, table::proofs::Passes::lines_no, table::proofs::Passes::lines_on))]
-fn fit_blocks(
-    size: &[u32; 6],
-    rows: &[u32; 17536],
-    store: &[u32; 2],
-    heads: &[u32; 768],
-    cells: &[u64; 4352],
-) -> Result<(), Answer>
-    ensures { result ≡ outcome (first 2 (map (block_number (rows_from size.now rows.now) (store_of store.now heads.now cells.now)) (store_of store.now heads.now cells.now))) }
+fn fit_blocks(size: &[u32; 6], rows: &[u32; 17536], t: &StoreTables) -> Result<(), Answer>
+    ensures { result ≡ outcome (first 2 (map (block_number (rows_from size.now rows.now) (store_in t.now)) (store_in t.now))) }
 {
-    for i in 0..storage::block_count(store) {
-        fit_block(size, rows, store, heads, cells, i).map_err(|number| Answer {
+    for i in 0..storage::block_count(&t.size) {
+        fit_block(size, rows, t, i).map_err(|number| Answer {
             number,
             line: 2 + i,
         })?;
@@ -146,17 +126,15 @@ fn arg_fits(
     size: &[u32; 6],
     rows: &[u32; 17536],
     vars: &[u32; 96],
-    store: &[u32; 2],
-    heads: &[u32; 768],
-    vals: &[u64; 32],
+    t: &StoreTables,
     v: usize,
 ) -> bool
-    ensures { (C : List ℕ) → result ≡ fits (rows_from size.now rows.now) (store_of store.now heads.now C) (kind_at (vars_from size.now vars.now) v) loosest (ev_var (vals_of (length (vars_from size.now vars.now)) vals.now) v) }
+    ensures { result ≡ fits (rows_from size.now rows.now) (store_in t.now) (kind_at (vars_from size.now vars.now) v) loosest (ev_var (vals_of (length (vars_from size.now vars.now)) t.now.vals) v) }
 {
     let n = program::var_count(size);
     let k = program::kind_of(size, vars, v);
-    let g = storage::val_at(n, vals, v);
-    given_fits(size, rows, store, heads, k, g)
+    let g = storage::val_at(n, &t.vals, v);
+    given_fits(size, rows, &t.size, &t.heads, k, g)
 }
 
 // Each parameter has a line, the first of them `line`; a local has none.
@@ -165,20 +143,18 @@ fn fit_args(
     size: &[u32; 6],
     rows: &[u32; 17536],
     vars: &[u32; 96],
-    store: &[u32; 2],
-    heads: &[u32; 768],
-    vals: &[u64; 32],
+    t: &StoreTables,
     line: usize,
 ) -> Result<(), Answer>
     requires { line < 1000 }
-    ensures { (C : List ℕ) → result ≡ outcome (first line (arg_numbers (rows_from size.now rows.now) (store_of store.now heads.now C) (vars_from size.now vars.now) (vals_of (length (vars_from size.now vars.now)) vals.now))) }
+    ensures { result ≡ outcome (first line (arg_numbers (rows_from size.now rows.now) (store_in t.now) (vars_from size.now vars.now) (vals_of (length (vars_from size.now vars.now)) t.now.vals))) }
 {
     let mut at = line;
     for v in 0..program::var_count(size) {
         if program::is_local(size, vars, v) {
             continue;
         }
-        if !arg_fits(size, rows, vars, store, heads, vals, v) {
+        if !arg_fits(size, rows, vars, t, v) {
             return Err(Answer {
                 number: 27,
                 line: at,
@@ -195,14 +171,11 @@ pub fn fitted(
     size: &[u32; 6],
     rows: &[u32; 17536],
     vars: &[u32; 96],
-    store: &[u32; 2],
-    heads: &[u32; 768],
-    cells: &[u64; 4352],
-    vals: &[u64; 32],
+    t: &StoreTables,
 ) -> Result<(), Answer>
-    ensures { (N L B : List ℕ) → result ≡ outcome (store_fits (program (tables_of size.entry.now N rows.now vars.now L B)) (record { size = store.now; heads = heads.now; cells = cells.now; vals = vals.now })) }
+    ensures { (N L B : List ℕ) → result ≡ outcome (store_fits (program (tables_of size.now N rows.now vars.now L B)) t.now) }
 {
-    fit_blocks(size, rows, store, heads, cells)?;
-    let line = 2 + storage::block_count(store);
-    fit_args(size, rows, vars, store, heads, vals, line)
+    fit_blocks(size, rows, t)?;
+    let line = 2 + storage::block_count(&t.size);
+    fit_args(size, rows, vars, t, line)
 }
