@@ -8,7 +8,7 @@ use Rattle.std.proofs.lemmas.List.{take_all}
 use Rattle.std.proofs.lemmas.List.Sums.{prefix_len-le-length}
 use Rattle.std.proofs.lemmas.Bool.Decides.{nat_tests}
 use Rattle.std.proofs.lemmas.Option.{cond_some}
-use Rattle.rules.specs.Prelude.{ℕ, suc, max, Bool, true, false, List, [], refl, sym, ap, subst, ◌∙◌, ltb, eqb, length, get_or, set, take, drop, replicate}
+use Rattle.rules.specs.Prelude.{ℕ, suc, max, Bool, true, false, List, [], refl, sym, ap, subst, ◌∙◌, ltb, eqb, length, get_or, set, take, drop}
 use Rattle.rules.specs.declared.Answer.{Answer}
 use Rattle.rules.specs.Text.Words.{Reading}
 use Rattle.rules.specs.declared.StoreCount.{StoreCount}
@@ -26,7 +26,7 @@ use Rattle.rules.specs.Store.{StoreOut, kept_store, judged, params_of, read_stor
 use Rattle.text.proofs.Laws.{value_most, next_most, plain_reads, number_reads}
 use Rattle.table.proofs.Passes.{left_more, left_none}
 use Rattle.storage.specs.Heads.{head_put}
-use Rattle.storage.proofs.Laws.{head_put_lem, nothing_is}
+use Rattle.storage.proofs.Laws.{head_put_lem}
 use Rattle.tally.specs.declared.Tally.{Tally}
 use Rattle.tally.specs.Counts.{Few, passed, tallied}
 use Rattle.tally.proofs.Laws.{cell_reads, block_most, FewCounted, tally_few, Short, tally_short}
@@ -232,16 +232,16 @@ next_taken {s} d {at} h e = rw e (by d.is_local refl)
     by true q = rw q h
     by false q = rw q (next_near h refl)
 
--- the four tables, each cleared before it was filled
-module _ (s : List ℕ) (D : List Var) (c : StoreCount) (after : ℕ) {Z H G C E W U : List ℕ} {at : ℕ} where
-  pub fill_is : Z ≡ c.budget ∷ c.blocks ∷ [] → at ≡ next_line s 0 → G ≡ replicate 768 0 → E ≡ replicate 4352 0 → U ≡ replicate 32 0
-      → fill_blocks s D c 0 c.blocks after H C ≡ fill_blocks s D c c.blocks 0 at G E → W ≡ fill_vals s D 0 after U
+-- the four tables, cleared before they were filled
+module _ (s : List ℕ) (D : List Var) (c : StoreCount) (after : ℕ) {Z H C W : List ℕ} {T : StoreTables} {at : ℕ} where
+  pub fill_is : Z ≡ c.budget ∷ c.blocks ∷ [] → at ≡ next_line s 0 → T ≡ no_store_tables
+      → fill_blocks s D c 0 c.blocks after H C ≡ fill_blocks s D c c.blocks 0 at T.heads T.cells → W ≡ fill_vals s D 0 after T.vals
       → tables_are Z H C W ≡ fill_store s D c
   unfolding fill_store fill_blocks
-  fill_is ez ea eg ee eu eb ew =
-      (λ i. tables_are (ez i) H C ((ew ∙ ap (fill_vals s D 0 after) (eu ∙ sym (ap (λ (t : StoreTables). t.vals) nothing_is))) i))
+  fill_is ez ea et eb ew =
+      (λ i. tables_are (ez i) H C ((ew ∙ ap (λ (t : StoreTables). fill_vals s D 0 after t.vals) et) i))
       ∙ eb
-      ∙ (λ i. fill_blocks s D c c.blocks 0 (ea i) ((eg ∙ sym (ap (λ (t : StoreTables). t.heads) nothing_is)) i) ((ee ∙ sym (ap (λ (t : StoreTables). t.cells) nothing_is)) i))
+      ∙ (λ i. fill_blocks s D c c.blocks 0 (ea i) (et i).heads (et i).cells)
 
 -- ---- the text, whole
 

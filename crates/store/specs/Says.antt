@@ -1,4 +1,4 @@
--- An answer and four tables are what the rules say of a store text. Assumes nothing.
+-- An answer and a store's tables are what the rules say of a store text. Assumes nothing.
 use Rattle.std.specs.Prelude.{◌≡◌}
 use Rattle.rules.specs.Prelude.{ℕ, List, Result, Ok, Err}
 use Rattle.rules.specs.declared.Answer.{Answer}
@@ -10,7 +10,7 @@ use Rattle.rules.specs.Store.{StoreOut}
 abbrev pub tables_are : List ℕ → List ℕ → List ℕ → List ℕ → StoreTables
 tables_are Z H C W = record { size = Z; heads = H; cells = C; vals = W }
 
--- four tables are those of a store that is not refused; of one that is, the rules keep none
+-- the tables are those of a store that is not refused; of one that is, the rules keep none
 abbrev pub Kept : StoreOut → StoreTables → Result Unit Answer → Type 0
 Kept o t (Ok _) = t ≡ o.tables
 Kept o t (Err _) = no_store_tables ≡ o.tables
@@ -19,9 +19,6 @@ pub record Filled (o : StoreOut) (a : Result Unit Answer) (t : StoreTables) : Ty
   pub answer : a ≡ outcome o.answer
   pub tables : Kept o t a
 
-pub record Says (o : StoreOut) (a : Result Unit Answer) (Z H C W : List ℕ) : Type 0 where
+pub record Says (o : StoreOut) (a : Result Unit Answer) (t : StoreTables) : Type 0 where
   pub answer : a ≡ outcome o.answer
-  pub size : Z ≡ o.tables.size
-  pub heads : H ≡ o.tables.heads
-  pub cells : C ≡ o.tables.cells
-  pub vals : W ≡ o.tables.vals
+  pub tables : t ≡ o.tables

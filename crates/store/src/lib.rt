@@ -14,9 +14,9 @@ ghost use Rattle.rules.specs.Program.{Var};
 ghost use Rattle.rules.specs.declared.StoreCount.{StoreCount as Counts};
 ghost use Rattle.tally.specs.Counts.{Few};
 ghost use Rattle.store.specs.Lines.{Inside, Near, block_line, taken};
-ghost use Rattle.store.specs.Says.{tables_are, Filled, Says};
+ghost use Rattle.store.specs.Says.{Filled, Says};
 
-use rules::{Answer, Datum, Kind, Num, StoreCount};
+use rules::{Answer, Datum, Kind, Num, StoreCount, StoreTables};
 use tally::{arg_word, block_words, cell_word};
 use text::{next_of, number_at, plain_at, value_of};
 
@@ -273,45 +273,31 @@ fn fill_vals(s: &[u8], size: &[u32; 6], vars: &[u32; 96], at: usize, vals: &mut 
     }
 }
 
+// All tables of a store.
+#[tactic(auto, unfolding(rules::specs::Store::Fill::no_store_tables))]
+fn clear(t: &mut StoreTables)
+    ensures { t.new ≡ fills.no_store_tables }
+{
+    t.size = [0; 2];
+    t.heads = [0; 768];
+    t.cells = [0; 4352];
+    t.vals = [0; 32];
+}
+
 // A text of a right shape, with its counts, into the tables, whatever they held.
 #[tactic(auto, using(crate::proofs::Ways::next_near, crate::proofs::Ways::start_near))]
-fn fill(
-    s: &[u8],
-    size: &[u32; 6],
-    vars: &[u32; 96],
-    c: StoreCount,
-    store: &mut [u32; 2],
-    heads: &mut [u32; 768],
-    cells: &mut [u64; 4352],
-    vals: &mut [u64; 32],
-)
+fn fill(s: &[u8], size: &[u32; 6], vars: &[u32; 96], c: StoreCount, t: &mut StoreTables)
     requires { (length s.now ≤ 16384) × Few 291 c }
-    ensures { tables_are store.new heads.new cells.new vals.new ≡ fills.fill_store s.now (vars_from size.now vars.now) c }
+    ensures { t.new ≡ fills.fill_store s.now (vars_from size.now vars.now) c }
 {
-    storage::clear_heads(heads);
-    storage::clear_cells(cells);
-    storage::clear_vals(vals);
+    clear(t);
     let at = next_line(s, 0);
-    let after = fill_blocks(s, c.blocks, at, heads, cells);
-    fill_vals(s, size, vars, after, vals);
-    storage::put_sizes(store, c.budget, c.blocks as u32);
+    let after = fill_blocks(s, c.blocks, at, &mut t.heads, &mut t.cells);
+    fill_vals(s, size, vars, after, &mut t.vals);
+    storage::put_sizes(&mut t.size, c.budget, c.blocks as u32);
 }
 
 // ---- the text, whole
-
-fn clear(
-    store: &mut [u32; 2],
-    heads: &mut [u32; 768],
-    cells: &mut [u64; 4352],
-    vals: &mut [u64; 32],
-)
-    ensures { tables_are store.new heads.new cells.new vals.new ≡ fills.no_store_tables }
-{
-    storage::clear_size(store);
-    storage::clear_heads(heads);
-    storage::clear_cells(cells);
-    storage::clear_vals(vals);
-}
 
 // How many variables take an argument.
 #[tactic(auto, using(crate::proofs::Ways::params_done, crate::proofs::Ways::params_local, crate::proofs::Ways::params_one))]
@@ -334,17 +320,14 @@ fn stages(
     size: &[u32; 6],
     rows: &[u32; 17536],
     vars: &[u32; 96],
-    store: &mut [u32; 2],
-    heads: &mut [u32; 768],
-    cells: &mut [u64; 4352],
-    vals: &mut [u64; 32],
+    t: &mut StoreTables,
 ) -> Result<(), Answer>
-    ensures { (N L B : List ℕ) → Filled (read_store (program (tables_of size.now N rows.now vars.now L B)) s.now) result (tables_are store.new heads.new cells.new vals.new) }
+    ensures { (N L B : List ℕ) → Filled (read_store (program (tables_of size.now N rows.now vars.now L B)) s.now) result t.new }
 {
-    let c = tally::tallied(s, params_of(size, vars)).map_err(|t| t.answer)?;
+    let c = tally::tallied(s, params_of(size, vars)).map_err(|refused| refused.answer)?;
     store_names(s, size, c)?;
-    fill(s, size, vars, c, store, heads, cells, vals);
-    fits::fitted(size, rows, vars, store, heads, cells, vals)
+    fill(s, size, vars, c, t);
+    fits::fitted(size, rows, vars, t)
 }
 
 // The store in the tables, or one of the answers 21 to 27. Whatever they held before, they are all 0 on a refusal.
@@ -353,16 +336,13 @@ pub fn read(
     size: &[u32; 6],
     rows: &[u32; 17536],
     vars: &[u32; 96],
-    store: &mut [u32; 2],
-    heads: &mut [u32; 768],
-    cells: &mut [u64; 4352],
-    vals: &mut [u64; 32],
+    t: &mut StoreTables,
 ) -> Result<(), Answer>
-    ensures { (N L B : List ℕ) → Says (read_store (program (tables_of size.now N rows.now vars.now L B)) s.now) result store.new heads.new cells.new vals.new }
+    ensures { (N L B : List ℕ) → Says (read_store (program (tables_of size.now N rows.now vars.now L B)) s.now) result t.new }
 {
-    let r = stages(s, size, rows, vars, store, heads, cells, vals);
+    let r = stages(s, size, rows, vars, t);
     if r.is_err() {
-        clear(store, heads, cells, vals);
+        clear(t);
     }
     r
 }
