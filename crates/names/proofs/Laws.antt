@@ -8,15 +8,14 @@ use Rattle.rules.specs.declared.Way.TheVariants as W
 use mathlib.Core.Logic.{◌⊎◌, inl, inr}
 use mathlib.Core.Path.{ap₂}
 use lib.ListN.{length-map}
-use borrow.Author.Tests.{ne_eqb, eqb-true, eqb-false}
+use borrow.Author.Tests.{ne_eqb}
 use Rattle.std.specs.Bool.{then_some}
 use Rattle.std.specs.Option.{is_some}
 use Rattle.std.specs.Prelude.{◌+◌, ◌-◌, ◌/◌, ◌%◌, ◌<◌, ◌≤◌, ◌&&◌, ◌∷◌, ◌++◌, ◌≡◌, Option, Some, None, Result, Ok, Err}
 use Rattle.rules.specs.Prelude.{ℕ, zero, suc, Bool, true, false, List, [], map, refl, sym, ap, ◌∙◌, length, get_or, drop}
 use Rattle.rules.specs.declared.Answer.{Answer}
 use Rattle.rules.specs.Numbers.{num_code}
-use Rattle.rules.specs.Answers.{answer, passes, and_then, outcome, first}
-use Rattle.rules.specs.When.{One}
+use Rattle.rules.specs.Answers.{answer, and_then, outcome, first}
 use Rattle.rules.specs.Environments.{no_var}
 use Rattle.rules.specs.Program.{Prog, Var, Expr, Stmt, bad_s, set_s, put_s, if_s, return_s, row_there, kind_at, label_at, no_entry}
 use Rattle.rules.specs.View.{vars_from, labels_from, label_from, entry_from, Walked, walked, form_of, tree_at, way_of, tree_of, with_one, with_two, stmt_of, stmt_from, body_from}

@@ -14,7 +14,7 @@ ghost use Rattle.names.specs.Walk.{there_at};
 ghost use Rattle.names.specs.Trees.{tree_named, stmt_named, line_named, names_in};
 
 use program::Stored;
-use rules::{Answer, Boxed, Entry, Form, Kind, Limits, Way};
+use rules::{Answer, Boxed, Entry, Form, Kind, Limits, Tables, Way};
 
 // ---- kinds and rows
 
@@ -77,17 +77,17 @@ fn entry_suits(k: Kind, e: Entry) -> bool
 
 // A label that is absent has no entries.
 #[tactic(auto, using(crate::proofs::Laws::suits_absent, crate::proofs::Laws::suits_done, crate::proofs::Laws::suits_left, table::proofs::Passes::all_no, table::proofs::Passes::all_on))]
-fn entries_suit(size: &[u32; 6], vars: &[u32; 96], labels: &[u64; 6208], l: usize) -> bool
-    ensures { result ≡ entries_suit (vars_from size.now vars.now) (label_at (labels_from size.now labels.now) l).entries }
+fn entries_suit(t: &Tables, l: usize) -> bool
+    ensures { result ≡ entries_suit (vars_from t.now.size t.now.vars) (label_at (labels_from t.now.size t.now.labels) l).entries }
 {
-    let count = program::label_count(size);
+    let count = program::label_count(&t.size);
     if count <= l {
         return true;
     }
-    let n = program::var_count(size);
+    let n = program::var_count(&t.size);
     for v in 0..n {
-        let k = program::kind_of(size, vars, v);
-        let e = program::label_entry(size, labels, l, v);
+        let k = program::kind_of(&t.size, &t.vars, v);
+        let e = program::label_entry(&t.size, &t.labels, l, v);
         if !entry_suits(k, e) {
             return false;
         }
@@ -151,57 +151,42 @@ fn trees_there(size: &[u32; 6], nodes: &[u64; 4096], trees: bool, k: usize) -> b
 
 // The label and the variable are read whether the line's kind has a use for them or not: they are something in every table. A tree is walked only where the line has one and trees are looked at.
 #[tactic(auto, using(program::proofs::Walk::with_one_lem, program::proofs::Walk::with_two_lem), unfolding(rules::specs::View::way_of, rules::specs::View::stmt_of, crate::specs::Trees::stmt_named, rules::specs::View::program))]
-fn stmt_there(
-    size: &[u32; 6],
-    nodes: &[u64; 4096],
-    labels: &[u64; 6208],
-    body: &[u32; 2560],
-    trees: bool,
-    s: Stored,
-) -> bool
-    ensures { (R D : List ℕ) → result ≡ stmt_named trees (program (tables_of size.now nodes.now R D labels.now body.now)) (stmt_of nodes.now (way_of s.kind) s.label s.variable s.word s.node) }
+fn stmt_there(t: &Tables, trees: bool, s: Stored) -> bool
+    ensures { result ≡ stmt_named trees (program t.now) (stmt_of t.now.nodes (way_of s.kind) s.label s.variable s.word s.node) }
 {
     let k = s.node as usize;
-    let label = program::label_there(size, labels, body, s.label as usize);
-    let var = program::var_there(size, s.variable as usize);
+    let label = program::label_there(&t.size, &t.labels, &t.body, s.label as usize);
+    let var = program::var_there(&t.size, s.variable as usize);
     match program::way_of(s.kind) {
         Way::Absent => false,
-        Way::Set => var && tree_there(size, nodes, trees, k),
-        Way::Put => trees_there(size, nodes, trees, k),
+        Way::Set => var && tree_there(&t.size, &t.nodes, trees, k),
+        Way::Put => trees_there(&t.size, &t.nodes, trees, k),
         Way::Goto | Way::Label => label,
-        Way::If => label && tree_there(size, nodes, trees, k),
+        Way::If => label && tree_there(&t.size, &t.nodes, trees, k),
         Way::IfImm | Way::IfTag | Way::IfInt => label && var,
-        Way::Return => tree_there(size, nodes, trees, k),
+        Way::Return => tree_there(&t.size, &t.nodes, trees, k),
     }
 }
 
 #[tactic(auto, using(crate::proofs::Laws::other_line), unfolding(rules::specs::View::way_of, rules::specs::View::stmt_of, rules::specs::View::program))]
-fn line_suits(size: &[u32; 6], vars: &[u32; 96], labels: &[u64; 6208], s: Stored) -> bool
-    ensures { (N R B : List ℕ) → result ≡ label_suits (program (tables_of size.now N R vars.now labels.now B)) (stmt_of N (way_of s.kind) s.label s.variable s.word s.node) }
+fn line_suits(t: &Tables, s: Stored) -> bool
+    ensures { result ≡ label_suits (program t.now) (stmt_of t.now.nodes (way_of s.kind) s.label s.variable s.word s.node) }
 {
     match program::way_of(s.kind) {
-        Way::Label => entries_suit(size, vars, labels, s.label as usize),
+        Way::Label => entries_suit(t, s.label as usize),
         _ => true,
     }
 }
 
 #[tactic(auto, using(crate::proofs::Laws::stored_line), unfolding(crate::specs::Trees::line_named))]
-fn name_line(
-    size: &[u32; 6],
-    nodes: &[u64; 4096],
-    vars: &[u32; 96],
-    labels: &[u64; 6208],
-    body: &[u32; 2560],
-    trees: bool,
-    i: usize,
-) -> Result<(), u32>
-    ensures { (R : List ℕ) → result ≡ passed (line_named trees (program (tables_of size.now nodes.now R vars.now labels.now body.now)) (stmt_from nodes.now body.now i)) }
+fn name_line(t: &Tables, trees: bool, i: usize) -> Result<(), u32>
+    ensures { result ≡ passed (line_named trees (program t.now) (stmt_from t.now.nodes t.now.body i)) }
 {
-    let s = program::line_at(body, i);
-    if !stmt_there(size, nodes, labels, body, trees, s) {
+    let s = program::line_at(&t.body, i);
+    if !stmt_there(t, trees, s) {
         return Err(4);
     }
-    if !line_suits(size, vars, labels, s) {
+    if !line_suits(t, s) {
         return Err(5);
     }
     Ok(())
@@ -247,21 +232,13 @@ fn name_vars(size: &[u32; 6], vars: &[u32; 96], line: usize) -> Result<(), Answe
 }
 
 #[tactic(auto, using(crate::proofs::Laws::lines_end, program::proofs::Laws::lines_small))]
-fn name_body(
-    size: &[u32; 6],
-    nodes: &[u64; 4096],
-    vars: &[u32; 96],
-    labels: &[u64; 6208],
-    body: &[u32; 2560],
-    trees: bool,
-    line: usize,
-) -> Result<(), Answer>
+fn name_body(t: &Tables, trees: bool, line: usize) -> Result<(), Answer>
     requires { line < 1000 }
-    ensures { (R : List ℕ) → result ≡ outcome (first line (map (line_named trees (program (tables_of size.now nodes.now R vars.now labels.now body.now))) (body_from size.now nodes.now body.now))) }
+    ensures { result ≡ outcome (first line (map (line_named trees (program t.now)) (body_from t.now.size t.now.nodes t.now.body))) }
 {
-    let n = program::line_count(size);
+    let n = program::line_count(&t.size);
     for i in 0..n {
-        let said = name_line(size, nodes, vars, labels, body, trees, i);
+        let said = name_line(t, trees, i);
         on_line(said, line + i)?;
     }
     Ok(())
@@ -269,21 +246,13 @@ fn name_body(
 
 // The first line that is refused, `ret` being line 1. Without `trees` what expressions name is not looked at: for a caller who knows that it exists.
 #[tactic(auto, using(program::proofs::Laws::rows_small, program::proofs::Laws::vars_small))]
-pub fn named(
-    size: &[u32; 6],
-    nodes: &[u64; 4096],
-    rows: &[u32; 17536],
-    vars: &[u32; 96],
-    labels: &[u64; 6208],
-    body: &[u32; 2560],
-    trees: bool,
-) -> Result<(), Answer>
-    ensures { result ≡ outcome (names_in trees (program (tables_of size.now nodes.now rows.now vars.now labels.now body.now))) }
+pub fn named(t: &Tables, trees: bool) -> Result<(), Answer>
+    ensures { result ≡ outcome (names_in trees (program t.now)) }
 {
-    on_line(name_kind(size, program::ret_kind(size)), 1)?;
-    name_rows(size, rows, 2)?;
-    let from_vars = 2 + program::row_count(size);
-    name_vars(size, vars, from_vars)?;
-    let from_body = from_vars + program::var_count(size);
-    name_body(size, nodes, vars, labels, body, trees, from_body)
+    on_line(name_kind(&t.size, program::ret_kind(&t.size)), 1)?;
+    name_rows(&t.size, &t.rows, 2)?;
+    let from_vars = 2 + program::row_count(&t.size);
+    name_vars(&t.size, &t.vars, from_vars)?;
+    let from_body = from_vars + program::var_count(&t.size);
+    name_body(t, trees, from_body)
 }

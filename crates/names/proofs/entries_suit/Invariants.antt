@@ -5,4 +5,4 @@ use Rattle.rules.specs.View.{labels_from, vars_from}
 use Rattle.names.proofs.entries_suit.Given as goal
 
 abbrev pub invariant-loop-v : goal.invariant-loop-v
-invariant-loop-v l = entries_suit (drop l.v (vars_from l.size l.vars)) (drop l.v (label_at (labels_from l.size l.labels) l.l).entries) ≡ entries_suit (vars_from l.size l.vars) (label_at (labels_from l.size l.labels) l.l).entries
+invariant-loop-v l = entries_suit (drop l.v (vars_from l.t.size l.t.vars)) (drop l.v (label_at (labels_from l.t.size l.t.labels) l.l).entries) ≡ entries_suit (vars_from l.t.size l.t.vars) (label_at (labels_from l.t.size l.t.labels) l.l).entries
