@@ -18,7 +18,6 @@ use Rattle.rules.specs.Text.Layout.{zeros, row_width}
 use Rattle.rules.specs.Text.Fill.{Filled, filled, Out, out, expression, kind_value, kind_next, add_var, Fields, fields, fill_ret, fill_param, fill_local, fill_products, add_row, fill_type, plain_line, expr_line, fill_set, fill_put_two, fill_put, fill_goto, fill_if, fill_ifimm, fill_test, fill_return, fill_label, one_more, fill_line}
 use Rattle.text.proofs.Laws.{Reads, number_reads, plain_reads, var_reads, value_most, next_most}
 use Rattle.shape.proofs.Laws.{kind_reads, psi_reads}
-use Rattle.program.specs.Lines.{tables_of}
 use Rattle.reader.specs.Read.{Placed, Worded, Fits, Within, left, Closed, Holds}
 use Rattle.once.proofs.Keys.{none}
 use Rattle.std.specs.Result.{is_err}
@@ -170,19 +169,5 @@ pub right_left : (r : Result Unit Answer) (t : Tables) → false ≡ is_err r �
 right_left (Ok x) t e = refl
 right_left (Err a) t e = none (sym e)
 
-pub holds : {o : TextOut} {r : Result Unit Answer} {Z N R D L B : List ℕ} {t : Tables} → Closed r t o → tables_of Z N R D L B ≡ left r t → Holds o r Z N R D L B
-holds h e =
-    let q = e ∙ h.tables in
-    record {
-      answer = h.answer;
-      size = ap (λ (x : Tables). x.size) q;
-      nodes = ap (λ (x : Tables). x.nodes) q;
-      rows = ap (λ (x : Tables). x.rows) q;
-      vars = ap (λ (x : Tables). x.vars) q;
-      labels = ap (λ (x : Tables). x.labels) q;
-      body = ap (λ (x : Tables). x.body) q;
-    }
-
--- for callers: the six tables at once
-pub tables_are_lem : {o : TextOut} {a : Result Unit Answer} {Z N R D L B : List ℕ} → Holds o a Z N R D L B → tables_of Z N R D L B ≡ o.tables
-tables_are_lem h = λ i. tables_of (h.size i) (h.nodes i) (h.rows i) (h.vars i) (h.labels i) (h.body i)
+pub holds : {o : TextOut} {r : Result Unit Answer} {t u : Tables} → Closed r t o → u ≡ left r t → Holds o r u
+holds h e = record { answer = h.answer; tables = e ∙ h.tables }

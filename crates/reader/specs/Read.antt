@@ -124,12 +124,7 @@ pub over_zeros : (s : List ℕ) → read_over s zeros ≡ read_text s
 unfolding read_over read_text
 over_zeros s = refl
 
--- the same of six tables, which are all 0 where the text is refused
-pub record Holds (o : TextOut) (a : Result Unit Answer) (Z N R D L B : List ℕ) : Type 0 where
+-- the same of the tables as they are, which are all 0 where the text is refused
+pub record Holds (o : TextOut) (a : Result Unit Answer) (t : Tables) : Type 0 where
   pub answer : a ≡ outcome o.answer
-  pub size : Z ≡ o.tables.size
-  pub nodes : N ≡ o.tables.nodes
-  pub rows : R ≡ o.tables.rows
-  pub vars : D ≡ o.tables.vars
-  pub labels : L ≡ o.tables.labels
-  pub body : B ≡ o.tables.body
+  pub tables : t ≡ o.tables

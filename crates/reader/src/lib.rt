@@ -2,7 +2,7 @@
 // A line with expressions is read at once, and looked at for its shape alone only if that fails; so is a label, and looked at only if it passes a limit.
 #![tactic(auto)]
 
-ghost use Rattle.std.specs.Prelude.{◌≡◌, Bool, true, false, ◌&&◌, List, ℕ, ◌+◌, ◌≤◌, ◌<◌, ltb, eqb, length, max};
+ghost use Rattle.std.specs.Prelude.{◌≡◌, true, false, ◌&&◌, ℕ, ◌+◌, ◌≤◌, ◌<◌, ltb, eqb, length, max};
 ghost use Rattle.rules.specs.When.{when};
 ghost use Rattle.rules.specs.Limits.{limits};
 ghost use Rattle.rules.specs.Text as texts;
@@ -18,7 +18,7 @@ ghost use Rattle.reader.specs.Read.{Placed, Near, Worded, Within, Ready, is_plai
 
 use once::line_once;
 use program::{clear, put_entry, put_field, put_label_line, put_line, put_psi, put_sizes, put_var};
-use rules::{Answer, Count, Key, Limits, Next, Reading};
+use rules::{Answer, Count, Key, Limits, Next, Reading, Tables};
 use shape::{
     between, boxed_at, in_order, key_at, key_of, kind_word, line_shape, offset_at, part_of, psi_at,
     tag_at,
@@ -83,14 +83,14 @@ fn kind_code(s: &[u8], at: usize) -> Word
 #[tactic(auto, using(rules::specs::Text::Fill::filled), unfolding(rules::specs::Text::Fill::fill_ret))]
 fn fill_ret(s: &[u8], at: usize, c: Count) -> Count
     requires { Placed s.now at }
-    ensures { (t : layout.Tables) → fills.filled true result t ≡ fills.fill_ret s.now at c t }
+    ensures { (t : Tables) → fills.filled true result t ≡ fills.fill_ret s.now at c t }
 {
     let k = kind_code(s, at);
     Count { ret: k.value, ..c }
 }
 
 fn add_var(c: Count, kind: u32, how: u32, number: u32, vars: &mut [u32; 96]) -> Option<Count>
-    ensures { (t : layout.Tables) → given result (layout.with_vars t vars.new) ≡ kept (fills.add_var c (layout.with_vars t vars.old) kind how number) }
+    ensures { (t : Tables) → given result (layout.with_vars t vars.new) ≡ kept (fills.add_var c (layout.with_vars t vars.old) kind how number) }
 {
     if Limits::VARIABLES <= c.vars {
         return None;
@@ -105,7 +105,7 @@ fn add_var(c: Count, kind: u32, how: u32, number: u32, vars: &mut [u32; 96]) -> 
 #[tactic(auto, unfolding(rules::specs::Text::Fill::fill_param))]
 fn fill_param(s: &[u8], at: usize, c: Count, vars: &mut [u32; 96]) -> Option<Count>
     requires { Placed s.now at }
-    ensures { (t : layout.Tables) → given result (layout.with_vars t vars.new) ≡ kept (fills.fill_param s.now at c (layout.with_vars t vars.old)) }
+    ensures { (t : Tables) → given result (layout.with_vars t vars.new) ≡ kept (fills.fill_param s.now at c (layout.with_vars t vars.old)) }
 {
     let k = kind_code(s, at);
     add_var(c, k.value, 1, 0, vars)
@@ -114,7 +114,7 @@ fn fill_param(s: &[u8], at: usize, c: Count, vars: &mut [u32; 96]) -> Option<Cou
 #[tactic(auto, using(crate::proofs::Laws::number_small, crate::proofs::Laws::number_ends), unfolding(rules::specs::Text::Fill::fill_local))]
 fn fill_local(s: &[u8], at: usize, c: Count, vars: &mut [u32; 96]) -> Option<Count>
     requires { Placed s.now at }
-    ensures { (t : layout.Tables) → given result (layout.with_vars t vars.new) ≡ kept (fills.fill_local s.now at c (layout.with_vars t vars.old)) }
+    ensures { (t : Tables) → given result (layout.with_vars t vars.new) ≡ kept (fills.fill_local s.now at c (layout.with_vars t vars.old)) }
 {
     let k = kind_code(s, at);
     let n = word_of(s, k.past, number_at(s, k.past));
@@ -195,7 +195,7 @@ fn fill_products(
 #[tactic(auto, using(crate::proofs::Ways::type_full, crate::proofs::Ways::type_room, crate::proofs::Laws::psi_small, crate::proofs::Laws::psi_ends, rules::specs::Text::Fill::fields, rules::specs::Text::Fill::filled))]
 fn fill_type(s: &[u8], at: usize, c: Count, rows: &mut [u32; 17536]) -> Option<Count>
     requires { Placed s.now at }
-    ensures { (t : layout.Tables) → given result (layout.with_rows t rows.new) ≡ kept (fills.fill_type s.now at c (layout.with_rows t rows.old)) }
+    ensures { (t : Tables) → given result (layout.with_rows t rows.new) ≡ kept (fills.fill_type s.now at c (layout.with_rows t rows.old)) }
 {
     if Limits::ROWS <= c.rows {
         return None;
@@ -215,7 +215,7 @@ fn fill_type(s: &[u8], at: usize, c: Count, rows: &mut [u32; 17536]) -> Option<C
 // A line without an expression, if there is room for it.
 #[tactic(auto, using(crate::proofs::Ways::no_room, crate::proofs::Ways::in_room), unfolding(rules::specs::Text::Fill::plain_line))]
 fn plain_line(c: Count, kind: u32, l: u32, v: u32, w: u32, body: &mut [u32; 2560]) -> Option<Count>
-    ensures { (t : layout.Tables) → given result (layout.with_body t body.new) ≡ kept (fills.one_more c (layout.with_body t body.old) (fills.plain_line c (layout.with_body t body.old) kind l v w)) }
+    ensures { (t : Tables) → given result (layout.with_body t body.new) ≡ kept (fills.one_more c (layout.with_body t body.old) (fills.plain_line c (layout.with_body t body.old) kind l v w)) }
 {
     if Limits::LINES <= c.lines {
         return None;
@@ -230,7 +230,7 @@ fn plain_line(c: Count, kind: u32, l: u32, v: u32, w: u32, body: &mut [u32; 2560
 #[tactic(auto, using(crate::proofs::Laws::plain_small, crate::proofs::Laws::plain_ends), unfolding(rules::specs::Text::Fill::fill_goto))]
 fn fill_goto(s: &[u8], at: usize, c: Count, body: &mut [u32; 2560]) -> Option<Count>
     requires { Placed s.now at }
-    ensures { (t : layout.Tables) → given result (layout.with_body t body.new) ≡ kept (fills.one_more c (layout.with_body t body.old) (fills.fill_goto s.now at c (layout.with_body t body.old))) }
+    ensures { (t : Tables) → given result (layout.with_body t body.new) ≡ kept (fills.one_more c (layout.with_body t body.old) (fills.fill_goto s.now at c (layout.with_body t body.old))) }
 {
     let l = word_of(s, at, plain_at(s, at));
     plain_line(c, 3, l.value, 0, 0, body)
@@ -239,7 +239,7 @@ fn fill_goto(s: &[u8], at: usize, c: Count, body: &mut [u32; 2560]) -> Option<Co
 #[tactic(auto, using(crate::proofs::Laws::plain_small, crate::proofs::Laws::plain_ends, crate::proofs::Laws::var_small, crate::proofs::Laws::var_ends), unfolding(rules::specs::Text::Fill::fill_ifimm))]
 fn fill_ifimm(s: &[u8], at: usize, c: Count, body: &mut [u32; 2560]) -> Option<Count>
     requires { Placed s.now at }
-    ensures { (t : layout.Tables) → given result (layout.with_body t body.new) ≡ kept (fills.one_more c (layout.with_body t body.old) (fills.fill_ifimm s.now at c (layout.with_body t body.old))) }
+    ensures { (t : Tables) → given result (layout.with_body t body.new) ≡ kept (fills.one_more c (layout.with_body t body.old) (fills.fill_ifimm s.now at c (layout.with_body t body.old))) }
 {
     let l = word_of(s, at, plain_at(s, at));
     let v = word_of(s, l.past, var_at(s, l.past));
@@ -250,7 +250,7 @@ fn fill_ifimm(s: &[u8], at: usize, c: Count, body: &mut [u32; 2560]) -> Option<C
 #[tactic(auto, using(crate::proofs::Laws::plain_small, crate::proofs::Laws::plain_ends, crate::proofs::Laws::var_small, crate::proofs::Laws::var_ends, crate::proofs::Laws::number_small, crate::proofs::Laws::number_ends), unfolding(rules::specs::Text::Fill::fill_test))]
 fn fill_test(kind: u32, s: &[u8], at: usize, c: Count, body: &mut [u32; 2560]) -> Option<Count>
     requires { Placed s.now at }
-    ensures { (t : layout.Tables) → given result (layout.with_body t body.new) ≡ kept (fills.one_more c (layout.with_body t body.old) (fills.fill_test kind s.now at c (layout.with_body t body.old))) }
+    ensures { (t : Tables) → given result (layout.with_body t body.new) ≡ kept (fills.one_more c (layout.with_body t body.old) (fills.fill_test kind s.now at c (layout.with_body t body.old))) }
 {
     let l = word_of(s, at, plain_at(s, at));
     let v = word_of(s, l.past, var_at(s, l.past));
@@ -262,27 +262,19 @@ fn fill_test(kind: u32, s: &[u8], at: usize, c: Count, body: &mut [u32; 2560]) -
 
 // A line without expressions, and no label.
 #[tactic(auto, unfolding(rules::specs::Text::Fill::fill_line))]
-fn fill_line(
-    s: &[u8],
-    key: Key,
-    at: usize,
-    c: Count,
-    rows: &mut [u32; 17536],
-    vars: &mut [u32; 96],
-    body: &mut [u32; 2560],
-) -> Option<Count>
+fn fill_line(s: &[u8], key: Key, at: usize, c: Count, t: &mut Tables) -> Option<Count>
     requires { Placed s.now at × (is_plain key ≡ true) }
-    ensures { (Z N L : List ℕ) → given result (tables_of Z N rows.new vars.new L body.new) ≡ kept (fills.fill_line s.now key at c (tables_of Z N rows.old vars.old L body.old)) }
+    ensures { given result t.new ≡ kept (fills.fill_line s.now key at c t.old) }
 {
     match key {
         Key::Ret => Some(fill_ret(s, at, c)),
-        Key::Type => fill_type(s, at, c, rows),
-        Key::Param => fill_param(s, at, c, vars),
-        Key::Local => fill_local(s, at, c, vars),
-        Key::Goto => fill_goto(s, at, c, body),
-        Key::IfImm => fill_ifimm(s, at, c, body),
-        Key::IfTag => fill_test(6, s, at, c, body),
-        Key::IfInt => fill_test(7, s, at, c, body),
+        Key::Type => fill_type(s, at, c, &mut t.rows),
+        Key::Param => fill_param(s, at, c, &mut t.vars),
+        Key::Local => fill_local(s, at, c, &mut t.vars),
+        Key::Goto => fill_goto(s, at, c, &mut t.body),
+        Key::IfImm => fill_ifimm(s, at, c, &mut t.body),
+        Key::IfTag => fill_test(6, s, at, c, &mut t.body),
+        Key::IfInt => fill_test(7, s, at, c, &mut t.body),
         _ => None,
     }
 }
@@ -296,17 +288,15 @@ fn shaped_line(
     at: usize,
     n: usize,
     c: Count,
-    rows: &mut [u32; 17536],
-    vars: &mut [u32; 96],
-    body: &mut [u32; 2560],
+    t: &mut Tables,
 ) -> Result<(usize, Count), u32>
     requires { Ready s.now at c × (is_plain (shapes.key_of k) ≡ true) }
-    ensures { (Z N L : List ℕ) → settled (handed result (tables_of Z N rows.new vars.new L body.new)) ≡ settled (texts.shaped s.now k at c (tables_of Z N rows.old vars.old L body.old) (Ok n)) }
+    ensures { settled (handed result t.new) ≡ settled (texts.shaped s.now k at c t.old (Ok n)) }
 {
     if byte_at(s, n) != 10 {
         return Err(2);
     }
-    let Some(d) = fill_line(s, key_of(k), at, c, rows, vars, body) else {
+    let Some(d) = fill_line(s, key_of(k), at, c, t) else {
         return Err(3);
     };
     Ok((
@@ -320,7 +310,7 @@ fn shaped_line(
 
 // The number of a line that could not be read at once: its shape is wrong (2), or it passes a limit (3).
 fn late(s: &[u8], k: u64, at: usize, c: Count) -> u32
-    ensures { (t u : layout.Tables) → Late s.now k at c t → settled (handed (Err result) u) ≡ settled (texts.shaped s.now k at c t (shapes.line_shape s.now c.vars (shapes.key_of k) at)) }
+    ensures { (t u : Tables) → Late s.now k at c t → settled (handed (Err result) u) ≡ settled (texts.shaped s.now k at c t (shapes.line_shape s.now c.vars (shapes.key_of k) at)) }
 {
     let Ok(n) = line_shape(s, c.vars, k, at) else {
         return 2;
@@ -329,18 +319,11 @@ fn late(s: &[u8], k: u64, at: usize, c: Count) -> u32
 }
 
 // A line with expressions.
-fn expr_line(
-    s: &[u8],
-    k: u64,
-    at: usize,
-    c: Count,
-    nodes: &mut [u64; 4096],
-    body: &mut [u32; 2560],
-) -> Result<(usize, Count), u32>
+fn expr_line(s: &[u8], k: u64, at: usize, c: Count, t: &mut Tables) -> Result<(usize, Count), u32>
     requires { Within c × (has_expr (shapes.key_of k) ≡ true) }
-    ensures { (t : layout.Tables) → settled (handed result (layout.with_body (layout.with_nodes t nodes.new) body.new)) ≡ settled (texts.shaped s.now k at c (layout.with_body (layout.with_nodes t nodes.old) body.old) (shapes.line_shape s.now c.vars (shapes.key_of k) at)) }
+    ensures { settled (handed result t.new) ≡ settled (texts.shaped s.now k at c t.old (shapes.line_shape s.now c.vars (shapes.key_of k) at)) }
 {
-    let Some((n, f)) = line_once(s, k, at, c.lines, c.nodes, nodes, body) else {
+    let Some((n, f)) = line_once(s, k, at, c.lines, c.nodes, &mut t.nodes, &mut t.body) else {
         return Err(late(s, k, at, c));
     };
     Ok((
@@ -420,28 +403,21 @@ fn entries_once(s: &[u8], l: usize, vars: usize, from: usize, labels: &mut [u64;
 
 // A label. Its limits are known before its entries are read, and it is looked at for its shape alone only if it passes one.
 #[tactic(auto, using(crate::proofs::Labels::labels_full, crate::proofs::Labels::lines_full))]
-fn label_line(
-    s: &[u8],
-    k: u64,
-    at: usize,
-    c: Count,
-    labels: &mut [u64; 6208],
-    body: &mut [u32; 2560],
-) -> Result<(usize, Count), u32>
+fn label_line(s: &[u8], k: u64, at: usize, c: Count, t: &mut Tables) -> Result<(usize, Count), u32>
     requires { Within c × (shapes.key_of k ≡ keys.Label) }
-    ensures { (t : layout.Tables) → settled (handed result (layout.with_body (layout.with_labels t labels.new) body.new)) ≡ settled (texts.shaped s.now k at c (layout.with_body (layout.with_labels t labels.old) body.old) (shapes.line_shape s.now c.vars (shapes.key_of k) at)) }
+    ensures { settled (handed result t.new) ≡ settled (texts.shaped s.now k at c t.old (shapes.line_shape s.now c.vars (shapes.key_of k) at)) }
 {
     if Limits::LINES <= c.lines || Limits::LABELS <= c.labels {
         return Err(late(s, k, at, c));
     }
-    put_label_line(labels, c.labels, c.lines as u64 + 1);
-    let Ok(n) = entries_once(s, c.labels, c.vars, at, labels) else {
+    put_label_line(&mut t.labels, c.labels, c.lines as u64 + 1);
+    let Ok(n) = entries_once(s, c.labels, c.vars, at, &mut t.labels) else {
         return Err(2);
     };
     if byte_at(s, n) != 10 {
         return Err(2);
     }
-    put_line(body, c.lines, 9, c.labels as u32, 0, 0, 0);
+    put_line(&mut t.body, c.lines, 9, c.labels as u32, 0, 0, 0);
     Ok((
         n + 1,
         Count {
@@ -454,53 +430,34 @@ fn label_line(
 }
 
 // A line from the place after its key on.
-fn keyed_line(
-    s: &[u8],
-    k: u64,
-    at: usize,
-    c: Count,
-    nodes: &mut [u64; 4096],
-    rows: &mut [u32; 17536],
-    vars: &mut [u32; 96],
-    labels: &mut [u64; 6208],
-    body: &mut [u32; 2560],
-) -> Result<(usize, Count), u32>
+fn keyed_line(s: &[u8], k: u64, at: usize, c: Count, t: &mut Tables) -> Result<(usize, Count), u32>
     requires { Ready s.now at c }
-    ensures { (Z : List ℕ) (start : ℕ) → settled (handed result (tables_of Z nodes.new rows.new vars.new labels.new body.new)) ≡ settled (texts.keyed s.now start c (tables_of Z nodes.old rows.old vars.old labels.old body.old) (Ok (k, at))) }
+    ensures { (start : ℕ) → settled (handed result t.new) ≡ settled (texts.keyed s.now start c t.old (Ok (k, at))) }
 {
     if !in_order(c.part, k) {
         return Err(2);
     }
     match key_of(k) {
-        Key::Set | Key::Put | Key::If | Key::Return => expr_line(s, k, at, c, nodes, body),
-        Key::Label => label_line(s, k, at, c, labels, body),
+        Key::Set | Key::Put | Key::If | Key::Return => expr_line(s, k, at, c, t),
+        Key::Label => label_line(s, k, at, c, t),
         _ => {
             let Ok(n) = line_shape(s, c.vars, k, at) else {
                 return Err(2);
             };
-            shaped_line(s, k, at, n, c, rows, vars, body)
+            shaped_line(s, k, at, n, c, t)
         }
     }
 }
 
 #[tactic(auto, unfolding(rules::specs::Text::line_at))]
-fn line_at(
-    s: &[u8],
-    at: usize,
-    c: Count,
-    nodes: &mut [u64; 4096],
-    rows: &mut [u32; 17536],
-    vars: &mut [u32; 96],
-    labels: &mut [u64; 6208],
-    body: &mut [u32; 2560],
-) -> Result<(usize, Count), u32>
+fn line_at(s: &[u8], at: usize, c: Count, t: &mut Tables) -> Result<(usize, Count), u32>
     requires { Ready s.now at c }
-    ensures { (Z : List ℕ) → settled (handed result (tables_of Z nodes.new rows.new vars.new labels.new body.new)) ≡ settled (texts.line_at s.now at c (tables_of Z nodes.old rows.old vars.old labels.old body.old)) }
+    ensures { settled (handed result t.new) ≡ settled (texts.line_at s.now at c t.old) }
 {
     let Ok((k, n)) = key_at(s, at) else {
         return Err(2);
     };
-    keyed_line(s, k, n, c, nodes, rows, vars, labels, body)
+    keyed_line(s, k, n, c, t)
 }
 
 // ---- the text, whole
@@ -508,7 +465,7 @@ fn line_at(
 // After the last line the sizes are written, unless there was no line.
 fn ended(c: Count, size: &mut [u32; 6]) -> Result<(), Answer>
     requires { Within c }
-    ensures { (t : layout.Tables) → Closed result (tables_of size.new t.nodes t.rows t.vars t.labels t.body) (texts.ended c t) }
+    ensures { (t : Tables) → Closed result (tables_of size.new t.nodes t.rows t.vars t.labels t.body) (texts.ended c t) }
 {
     if c.part == 0 {
         return Err(Answer { number: 2, line: 1 });
@@ -526,26 +483,18 @@ fn ended(c: Count, size: &mut [u32; 6]) -> Result<(), Answer>
 }
 
 // One turn a line.
-fn lines(
-    s: &[u8],
-    size: &mut [u32; 6],
-    nodes: &mut [u64; 4096],
-    rows: &mut [u32; 17536],
-    vars: &mut [u32; 96],
-    labels: &mut [u64; 6208],
-    body: &mut [u32; 2560],
-) -> Result<(), Answer>
+fn lines(s: &[u8], t: &mut Tables) -> Result<(), Answer>
     requires { length s.now ≤ limits.bytes }
-    ensures { Closed result (tables_of size.new nodes.new rows.new vars.new labels.new body.new) (texts.lines_from s.now (texts.most_lines + 1) 1 0 layout.nothing (tables_of size.old nodes.old rows.old vars.old labels.old body.old)) }
+    ensures { Closed result t.new (texts.lines_from s.now (texts.most_lines + 1) 1 0 layout.nothing t.old) }
 {
     let mut at = 0;
     let mut c = nothing();
     for line in 1..LINE_TURNS + 1 {
         if s.len() <= at {
-            return ended(c, size);
+            return ended(c, &mut t.size);
         }
         // Kept as it is: tried `map_err` with `?`, the proof did not close, at returns-in_err-next: a closure that captures `line` states what it gave in no form that an answer can name.
-        match line_at(s, at, c, nodes, rows, vars, labels, body) {
+        match line_at(s, at, c, t) {
             Ok((next, d)) => {
                 at = next;
                 c = d;
@@ -575,24 +524,16 @@ fn nothing() -> Count
 }
 
 // The program is written over what the tables held, or the text is refused with an answer 1 to 3; then they are all 0.
-pub fn read(
-    s: &[u8],
-    size: &mut [u32; 6],
-    nodes: &mut [u64; 4096],
-    rows: &mut [u32; 17536],
-    vars: &mut [u32; 96],
-    labels: &mut [u64; 6208],
-    body: &mut [u32; 2560],
-) -> Result<(), Answer>
-    ensures { Holds (read_over s.now (tables_of size.old nodes.old rows.old vars.old labels.old body.old)) result size.new nodes.new rows.new vars.new labels.new body.new }
+pub fn read(s: &[u8], t: &mut Tables) -> Result<(), Answer>
+    ensures { Holds (read_over s.now t.old) result t.new }
 {
     if Limits::BYTES < s.len() {
-        clear(size, nodes, rows, vars, labels, body);
+        clear(t);
         return Err(Answer { number: 1, line: 0 });
     }
-    let a = lines(s, size, nodes, rows, vars, labels, body);
+    let a = lines(s, t);
     if a.is_err() {
-        clear(size, nodes, rows, vars, labels, body);
+        clear(t);
     }
     a
 }

@@ -3,7 +3,6 @@ use Rattle.std.proofs.Common.{ap, arith, sym, ◌∙◌}
 use Rattle.rules.specs.Text.{keyed, line_at}
 use Rattle.text.proofs.Laws.{got}
 use Rattle.shape.proofs.Laws.{key_reads}
-use Rattle.program.specs.Lines.{tables_of}
 use Rattle.rules.specs.Text.Words.{Reading}
 use Rattle.rules.specs.Text.Layout.{nothing}
 use Rattle.reader.proofs.Once.{same_number}
@@ -15,4 +14,4 @@ keyed_line-requires c = let g = got (key_reads c.args.s.now c.args.at) (sym c.in
 
 pub returns-in_default : goal.returns-in_default
 unfolding line_at
-returns-in_default c = let a = c.args in λ Z. same_number 2 0 _ nothing a.c (tables_of Z a.nodes.now a.rows.now a.vars.now a.labels.now a.body.now) (tables_of Z a.nodes.now a.rows.now a.vars.now a.labels.now a.body.now) (λ e. omega (arith, e)) ∙ ap (λ (r : Reading). settled (keyed a.s.now a.at a.c (tables_of Z a.nodes.now a.rows.now a.vars.now a.labels.now a.body.now) r)) c.in_default.ensures
+returns-in_default c = let a = c.args in same_number 2 0 _ nothing a.c a.t.now a.t.now (λ e. omega (arith, e)) ∙ ap (λ (r : Reading). settled (keyed a.s.now a.at a.c a.t.now r)) c.in_default.ensures

@@ -3,8 +3,7 @@ use Rattle.std.proofs.Common.{◌-◌, ◌≡◌}
 use Rattle.reader.specs.Read.{Within}
 use Rattle.rules.specs.Text.{lines_from}
 use Rattle.rules.specs.Text.Layout.{nothing}
-use Rattle.program.specs.Lines.{tables_of}
 use Rattle.reader.proofs.lines.Given as goal
 
 abbrev pub invariant-loop-line : goal.invariant-loop-line
-invariant-loop-line l = Within l.c × (lines_from l.s (611 - l.line) l.line l.at l.c (tables_of l.size l.nodes l.rows l.vars l.labels l.body) ≡ lines_from l.s 610 1 0 nothing (tables_of l.initial.size l.initial.nodes l.initial.rows l.initial.vars l.initial.labels l.initial.body))
+invariant-loop-line l = Within l.c × (lines_from l.s (611 - l.line) l.line l.at l.c l.t ≡ lines_from l.s 610 1 0 nothing l.initial.t)
