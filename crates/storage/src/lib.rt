@@ -5,9 +5,10 @@ ghost use Rattle.std.specs.Prelude.{◌≡◌, List, [], ◌∷◌, ℕ, ◌+◌
 ghost use Rattle.rules.specs.Text.Layout.{cell};
 ghost use Rattle.rules.specs.Machine.{row_in, tag_in, cells_in, inside, cell_at, ev_var};
 ghost use Rattle.rules.specs.Machine.Tables.{datum_code, head_width, block_width, store_of, vals_of};
+ghost use Rattle.rules.specs.Store.Fill.{no_store_tables};
 ghost use Rattle.storage.specs.Heads.{head_put};
 
-use rules::{Given, Limits};
+use rules::{Given, Limits, StoreTables};
 
 // How many numbers a block has in each table.
 const HEAD_WIDTH: usize = 3;
@@ -135,28 +136,13 @@ pub fn put_sizes(size: &mut [u32; 2], budget: u32, blocks: u32)
 
 // ---- clearing
 
-// Kept as it is: one function over the length `N` would write `[0; N]`, of which the check makes no proof where `N` is a parameter.
-
-pub fn clear_size(size: &mut [u32; 2])
-    ensures { size.new ≡ replicate 2 0 }
+// All tables of a store.
+#[tactic(auto, unfolding(rules::specs::Store::Fill::no_store_tables))]
+pub fn clear(t: &mut StoreTables)
+    ensures { t.new ≡ no_store_tables }
 {
-    *size = [0; 2];
-}
-
-pub fn clear_heads(heads: &mut [u32; 768])
-    ensures { heads.new ≡ replicate 768 0 }
-{
-    *heads = [0; 768];
-}
-
-pub fn clear_cells(cells: &mut [u64; 4352])
-    ensures { cells.new ≡ replicate 4352 0 }
-{
-    *cells = [0; 4352];
-}
-
-pub fn clear_vals(vals: &mut [u64; 32])
-    ensures { vals.new ≡ replicate 32 0 }
-{
-    *vals = [0; 32];
+    t.size = [0; 2];
+    t.heads = [0; 768];
+    t.cells = [0; 4352];
+    t.vals = [0; 32];
 }

@@ -273,24 +273,13 @@ fn fill_vals(s: &[u8], size: &[u32; 6], vars: &[u32; 96], at: usize, vals: &mut 
     }
 }
 
-// All tables of a store.
-#[tactic(auto, unfolding(rules::specs::Store::Fill::no_store_tables))]
-fn clear(t: &mut StoreTables)
-    ensures { t.new ≡ fills.no_store_tables }
-{
-    t.size = [0; 2];
-    t.heads = [0; 768];
-    t.cells = [0; 4352];
-    t.vals = [0; 32];
-}
-
 // A text of a right shape, with its counts, into the tables, whatever they held.
 #[tactic(auto, using(crate::proofs::Ways::next_near, crate::proofs::Ways::start_near))]
 fn fill(s: &[u8], size: &[u32; 6], vars: &[u32; 96], c: StoreCount, t: &mut StoreTables)
     requires { (length s.now ≤ 16384) × Few 291 c }
     ensures { t.new ≡ fills.fill_store s.now (vars_from size.now vars.now) c }
 {
-    clear(t);
+    storage::clear(t);
     let at = next_line(s, 0);
     let after = fill_blocks(s, c.blocks, at, &mut t.heads, &mut t.cells);
     fill_vals(s, size, vars, after, &mut t.vals);
@@ -342,7 +331,7 @@ pub fn read(
 {
     let r = stages(s, size, rows, vars, t);
     if r.is_err() {
-        clear(t);
+        storage::clear(t);
     }
     r
 }
