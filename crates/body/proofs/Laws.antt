@@ -11,7 +11,6 @@ use lib.Seq.{set_out}
 use borrow.Author.Tests.{ne_eqb}
 use Rattle.rules.specs.declared.Env.{Env}
 use Rattle.rules.specs.declared.Entry.{Entry}
-use Rattle.rules.specs.Typing.{Judged}
 use Rattle.rules.specs.declared.Line.{Line}
 use Rattle.rules.specs.declared.Answer.{Answer}
 use Rattle.rules.specs.When.{when}
@@ -20,14 +19,14 @@ use Rattle.rules.specs.Numbers.{num_code}
 use Rattle.rules.specs.declared.Tables.{Tables}
 use Rattle.rules.proofs.Laws.Lists.{tab_length}
 use Rattle.rules.specs.Program.{Stmt, bad_s}
-use Rattle.rules.specs.View.{tab, tree_of, tree_at, way_of, stmt_of, stmt_from, kind_code, rows_from, vars_from, labels_from, body_from, program}
-use Rattle.rules.specs.Typing.{ty_var, type}
+use Rattle.rules.specs.View.{tab, tree_at, way_of, stmt_of, stmt_from, kind_code, rows_from, vars_from, labels_from, body_from, program}
+use Rattle.rules.specs.Typing.{ty_var}
 use Rattle.rules.specs.Environments.{covers_env, covers, with_entry, start_env}
 use Rattle.rules.specs.Body.{refuse, rule_set, rule_put, rule_goto, rule_if, rule_ifimm, rule_iftag, rule_ifint, rule_return, reached, line_of, local_line, last_of, is_end}
 use Rattle.table.proofs.Passes.{first_append}
 use Rattle.program.specs.declared.Stored.{Stored}
 use Rattle.coded.specs.Coded.{entry_in, env_of}
-use Rattle.program.specs.Lines.{stored_at, tables_of}
+use Rattle.program.specs.Lines.{stored_at}
 use Rattle.program.specs.Labels.{env_from}
 use Rattle.program.specs.Nodes.{after_of}
 use Rattle.program.proofs.Laws.{env_in, line_view, line_in_lem, line_drop}
@@ -36,7 +35,7 @@ use Rattle.std.specs.Prelude.{Result, Ok, Err}
 use Rattle.std.specs.Result.{MatchResult, is_ok}
 use Rattle.typing.specs.Walk.{Told}
 use Rattle.body.specs.declared.Then.{Then}
-use Rattle.body.specs.Lines.{line_by, label_line, line_in, line_at, numbers_in, locals_in, lines_in, types_in}
+use Rattle.body.specs.Lines.{judged_at, line_by, label_line, line_in, line_at, numbers_in, locals_in, lines_in, types_in}
 
 -- ---- labels
 
@@ -63,50 +62,47 @@ module _ (Γ : Env) (C : List ℕ) (n : ℕ) (e : Γ ≡ env_of C n) where
 
 -- ---- the line by its kind
 
-module _ (Z R D L N B : List ℕ) (b : Bool) (Γ : Env) (i : ℕ) (s : Stored) (e : s ≡ stored_at B i) where
+module _ (t : Tables) (b : Bool) (Γ : Env) (i : ℕ) (s : Stored) (e : s ≡ stored_at t.body i) where
   abbrev line : Line
-  line = line_at (tables_of Z N R D L B) b Γ i
+  line = line_at t b Γ i
 
-  abbrev judged_at : ℕ → Judged
-  judged_at k = type (rows_from Z R) (vars_from Z D) Γ (tree_of (tree_at N 16 k))
-
-  by_way : (w : Way) → w ≡ way_of s.kind → line ≡ line_in (tables_of Z N R D L B) b Γ (stmt_of N w s.label s.variable s.word s.node)
+  by_way : (w : Way) → w ≡ way_of s.kind → line ≡ line_in t b Γ (stmt_of t.nodes w s.label s.variable s.word s.node)
   unfolding line_at
-  by_way w q = rw (line_view N B i, sym e, sym q)
+  by_way w q = rw (line_view t.nodes t.body i, sym e, sym q)
 
-  pub set_line : W.Set ≡ way_of s.kind → line ≡ reached b Γ (rule_set (vars_from Z D) s.variable (judged_at s.node) Γ)
+  pub set_line : W.Set ≡ way_of s.kind → line ≡ reached b Γ (rule_set (vars_from t.size t.vars) s.variable (judged_at t Γ s.node) Γ)
   unfolding stmt_of line_in line_of program
-  set_line q = by_way W.Set q ∙ rw (with_one_lem (Stmt.set_s s.variable) (tree_at N 16 s.node))
+  set_line q = by_way W.Set q ∙ rw (with_one_lem (Stmt.set_s s.variable) (tree_at t.nodes 16 s.node))
 
-  pub put_line_lem : W.Put ≡ way_of s.kind → line ≡ reached b Γ (rule_put (rows_from Z R) (num_code s.word) (judged_at s.node) (judged_at (after_of (tree_at N 16 s.node))) Γ)
+  pub put_line_lem : W.Put ≡ way_of s.kind → line ≡ reached b Γ (rule_put (rows_from t.size t.rows) (num_code s.word) (judged_at t Γ s.node) (judged_at t Γ (after_of (tree_at t.nodes 16 s.node))) Γ)
   unfolding stmt_of line_in line_of program
-  put_line_lem q = by_way W.Put q ∙ rw (with_two_lem N (λ x y. Stmt.put_s x (num_code s.word) y) (tree_at N 16 s.node))
+  put_line_lem q = by_way W.Put q ∙ rw (with_two_lem t.nodes (λ x y. Stmt.put_s x (num_code s.word) y) (tree_at t.nodes 16 s.node))
 
-  pub goto_line : W.Goto ≡ way_of s.kind → line ≡ reached b Γ (rule_goto (labels_from Z L) s.label Γ)
+  pub goto_line : W.Goto ≡ way_of s.kind → line ≡ reached b Γ (rule_goto (labels_from t.size t.labels) s.label Γ)
   unfolding stmt_of line_in line_of program
   goto_line q = by_way W.Goto q
 
-  pub if_line : W.If ≡ way_of s.kind → line ≡ reached b Γ (rule_if (labels_from Z L) s.label (judged_at s.node) Γ)
+  pub if_line : W.If ≡ way_of s.kind → line ≡ reached b Γ (rule_if (labels_from t.size t.labels) s.label (judged_at t Γ s.node) Γ)
   unfolding stmt_of line_in line_of program
-  if_line q = by_way W.If q ∙ rw (with_one_lem (Stmt.if_s s.label) (tree_at N 16 s.node))
+  if_line q = by_way W.If q ∙ rw (with_one_lem (Stmt.if_s s.label) (tree_at t.nodes 16 s.node))
 
-  pub ifimm_line : W.IfImm ≡ way_of s.kind → line ≡ reached b Γ (rule_ifimm (labels_from Z L) s.label s.variable (ty_var (vars_from Z D) Γ s.variable) Γ)
+  pub ifimm_line : W.IfImm ≡ way_of s.kind → line ≡ reached b Γ (rule_ifimm (labels_from t.size t.labels) s.label s.variable (ty_var (vars_from t.size t.vars) Γ s.variable) Γ)
   unfolding stmt_of line_in line_of program
   ifimm_line q = by_way W.IfImm q
 
-  pub iftag_line : W.IfTag ≡ way_of s.kind → line ≡ reached b Γ (rule_iftag (rows_from Z R) (labels_from Z L) s.label s.variable (num_code s.word) (ty_var (vars_from Z D) Γ s.variable) Γ)
+  pub iftag_line : W.IfTag ≡ way_of s.kind → line ≡ reached b Γ (rule_iftag (rows_from t.size t.rows) (labels_from t.size t.labels) s.label s.variable (num_code s.word) (ty_var (vars_from t.size t.vars) Γ s.variable) Γ)
   unfolding stmt_of line_in line_of program
   iftag_line q = by_way W.IfTag q
 
-  pub ifint_line : W.IfInt ≡ way_of s.kind → line ≡ reached b Γ (rule_ifint (rows_from Z R) (labels_from Z L) s.label s.variable (num_code s.word) (ty_var (vars_from Z D) Γ s.variable) Γ)
+  pub ifint_line : W.IfInt ≡ way_of s.kind → line ≡ reached b Γ (rule_ifint (rows_from t.size t.rows) (labels_from t.size t.labels) s.label s.variable (num_code s.word) (ty_var (vars_from t.size t.vars) Γ s.variable) Γ)
   unfolding stmt_of line_in line_of program
   ifint_line q = by_way W.IfInt q
 
-  pub return_line : W.Return ≡ way_of s.kind → line ≡ reached b Γ (rule_return (kind_code (get_or Z 0 0)) (judged_at s.node) Γ)
+  pub return_line : W.Return ≡ way_of s.kind → line ≡ reached b Γ (rule_return (kind_code (get_or t.size 0 0)) (judged_at t Γ s.node) Γ)
   unfolding stmt_of line_in line_of program
-  return_line q = by_way W.Return q ∙ rw (with_one_lem Stmt.return_s (tree_at N 16 s.node))
+  return_line q = by_way W.Return q ∙ rw (with_one_lem Stmt.return_s (tree_at t.nodes 16 s.node))
 
-  pub label_line_lem : W.Label ≡ way_of s.kind → line ≡ label_line (env_from L s.label (length (vars_from Z D))) b Γ
+  pub label_line_lem : W.Label ≡ way_of s.kind → line ≡ label_line (env_from t.labels s.label (length (vars_from t.size t.vars))) b Γ
   unfolding stmt_of line_in
   label_line_lem q = by_way W.Label q
 

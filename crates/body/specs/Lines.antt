@@ -12,7 +12,7 @@ use Rattle.rules.specs.When.{when, need}
 use Rattle.rules.specs.Answers.{first}
 use Rattle.rules.specs.declared.Tables.{Tables}
 use Rattle.rules.specs.Typing.{Judged, type}
-use Rattle.rules.specs.Program.{Rows, Var, Stmt, bad_s, set_s, put_s, goto_s, if_s, ifimm_s, iftag_s, ifint_s, return_s, label_s}
+use Rattle.rules.specs.Program.{Stmt, bad_s, set_s, put_s, goto_s, if_s, ifimm_s, iftag_s, ifint_s, return_s, label_s}
 use Rattle.rules.specs.View.{tree_of, tree_at, rows_from, vars_from, body_from, stmt_from, program}
 use Rattle.rules.specs.Environments.{covers_env, with_entry, start_env}
 use Rattle.rules.specs.Body.{goes, refuse, line_of, local_line, onward}
@@ -34,8 +34,8 @@ HasOne W.Return = Unit
 HasOne W.Label = ⊥
 
 -- what the expression at node k is judged as
-abbrev pub judged_at : Rows → List Var → Env → List ℕ → ℕ → Judged
-judged_at ρ D Γ N k = type ρ D Γ (tree_of (tree_at N 16 k))
+abbrev pub judged_at : Tables → Env → ℕ → Judged
+judged_at t Γ k = type (rows_from t.size t.rows) (vars_from t.size t.vars) Γ (tree_of (tree_at t.nodes 16 k))
 
 -- what a line that does x is, of one that began with Γ, where the labels stand in L and there are m variables
 abbrev pub line_by : List ℕ → ℕ → Env → Result Then ℕ → Line

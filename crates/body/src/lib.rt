@@ -14,10 +14,11 @@ ghost use Rattle.program.specs.Nodes.{after_of};
 ghost use Rattle.program.specs.Lines.{tables_of};
 ghost use Rattle.rules.specs.declared.Env.{Env};
 ghost use Rattle.coded.specs.Coded.{env_of};
-ghost use Rattle.typing.specs.Walk.{Told};
+ghost use Rattle.typing.specs.Walk.{Told, found_at};
 ghost use Rattle.body.specs.Lines.{HasOne, judged_at, line_by, Does, number_out, label_line, line_at, locals_in, lines_in, types_in};
 
-use rules::{Answer, Boxed, Entry, Env, Judged, Kind, Limits, Num, Offset, Tag, Way};
+use rules::{Answer, Boxed, Entry, Env, Judged, Kind, Limits, Num, Offset, Tables, Tag, Way};
+use typing::Found;
 
 // ---- what a line gives, and the tests of lines
 
@@ -71,21 +72,29 @@ fn jump_to(size: &[u32; 6], labels: &[u64; 6208], l: usize, there: Env, on: Then
     }
 }
 
-// What the expression at node k is judged as, in the environment that the codes stand for.
+// The judgement of the expression at node k, in the environment that the codes stand for, and the node after it.
+fn found(t: &Tables, codes: &[u64; 96], count: usize, k: usize) -> Found
+    ensures { result ≡ found_at (rows_from t.now.size t.now.rows) (vars_from t.now.size t.now.vars) (env_of codes.now count) t.now.nodes 16 k }
+{
+    typing::judge_at(
+        &t.size,
+        &t.rows,
+        &t.vars,
+        &t.nodes,
+        codes,
+        count,
+        Limits::DEPTH,
+        k,
+    )
+}
+
+// What the expression at node k is judged as.
 #[tactic(auto, using(typing::proofs::Laws::told_found, typing::proofs::Laws::tree_of_lem))]
-fn judged(
-    size: &[u32; 6],
-    rows: &[u32; 17536],
-    vars: &[u32; 96],
-    nodes: &[u64; 4096],
-    codes: &[u64; 96],
-    count: usize,
-    k: usize,
-) -> Judged
-    ensures judgement { result ≡ judged_at (rows_from size.now rows.now) (vars_from size.now vars.now) (env_of codes.now count) nodes.now k }
+fn judged(t: &Tables, codes: &[u64; 96], count: usize, k: usize) -> Judged
+    ensures judgement { result ≡ judged_at t.now (env_of codes.now count) k }
     ensures told { Told result }
 {
-    typing::judge_at(size, rows, vars, nodes, codes, count, Limits::DEPTH, k).judged
+    found(t, codes, count, k).judged
 }
 
 // ---- the statements
@@ -126,22 +135,13 @@ fn put_judged(size: &[u32; 6], rows: &[u32; 17536], n: Num, x: Judged, y: Judged
 
 // A and E of a `put`: E begins at the node after A.
 #[tactic(auto, using(typing::proofs::Laws::told_found, typing::proofs::Laws::after_of_lem, typing::proofs::Laws::tree_of_lem))]
-fn rule_put(
-    size: &[u32; 6],
-    rows: &[u32; 17536],
-    vars: &[u32; 96],
-    nodes: &[u64; 4096],
-    codes: &[u64; 96],
-    count: usize,
-    n: Num,
-    k: usize,
-) -> Deed
-    ensures line { (Γ : Env) → Does Γ result (rule_put (rows_from size.now rows.now) n (judged_at (rows_from size.now rows.now) (vars_from size.now vars.now) (env_of codes.now count) nodes.now k) (judged_at (rows_from size.now rows.now) (vars_from size.now vars.now) (env_of codes.now count) nodes.now (after_of (tree_at nodes.now 16 k))) Γ) }
+fn rule_put(t: &Tables, codes: &[u64; 96], count: usize, n: Num, k: usize) -> Deed
+    ensures line { (Γ : Env) → Does Γ result (rule_put (rows_from t.now.size t.now.rows) n (judged_at t.now (env_of codes.now count) k) (judged_at t.now (env_of codes.now count) (after_of (tree_at t.now.nodes 16 k))) Γ) }
     ensures told { Told result }
 {
-    let f = typing::judge_at(size, rows, vars, nodes, codes, count, Limits::DEPTH, k);
-    let y = judged(size, rows, vars, nodes, codes, count, f.next);
-    put_judged(size, rows, n, f.judged, y)
+    let f = found(t, codes, count, k);
+    let y = judged(t, codes, count, f.next);
+    put_judged(&t.size, &t.rows, n, f.judged, y)
 }
 
 #[tactic(auto, unfolding(rules::specs::Body::rule_goto))]
@@ -166,18 +166,11 @@ fn rule_if(size: &[u32; 6], labels: &[u64; 6208], env: Env, l: usize, x: Judged)
 
 // Jumping, the variable is `imm`; falling, it is `box`.
 #[tactic(auto, using(typing::proofs::Laws::told_var), unfolding(rules::specs::Body::rule_ifimm))]
-fn rule_ifimm(
-    size: &[u32; 6],
-    vars: &[u32; 96],
-    labels: &[u64; 6208],
-    env: Env,
-    l: usize,
-    v: usize,
-) -> Deed
-    ensures line { Does env result (rule_ifimm (labels_from size.now labels.now) l v (ty_var (vars_from size.now vars.now) env v) env) }
+fn rule_ifimm(t: &Tables, env: Env, l: usize, v: usize) -> Deed
+    ensures line { Does env result (rule_ifimm (labels_from t.now.size t.now.labels) l v (ty_var (vars_from t.now.size t.now.vars) env v) env) }
     ensures told { Told result }
 {
-    let (Kind::Value(_), e) = typing::var_judged(size, vars, env, v)? else {
+    let (Kind::Value(_), e) = typing::var_judged(&t.size, &t.vars, env, v)? else {
         return Err(6);
     };
     if !entry::zero_offset(e.offset) {
@@ -185,7 +178,7 @@ fn rule_ifimm(
     }
     let there = entry::with_entry(env, v, entry::with_boxed(e, Boxed::Imm));
     let here = Then::Takes(v, entry::with_boxed(e, Boxed::Block));
-    jump_to(size, labels, l, there, here)
+    jump_to(&t.size, &t.labels, l, there, here)
 }
 
 // Jumping, the variable's tag is n; falling, it is what it was.
@@ -207,20 +200,11 @@ fn tag_jump(
 }
 
 #[tactic(auto, using(typing::proofs::Laws::told_var), unfolding(rules::specs::Body::rule_iftag))]
-fn rule_iftag(
-    size: &[u32; 6],
-    rows: &[u32; 17536],
-    vars: &[u32; 96],
-    labels: &[u64; 6208],
-    env: Env,
-    l: usize,
-    v: usize,
-    n: Num,
-) -> Deed
-    ensures line { Does env result (rule_iftag (rows_from size.now rows.now) (labels_from size.now labels.now) l v n (ty_var (vars_from size.now vars.now) env v) env) }
+fn rule_iftag(t: &Tables, env: Env, l: usize, v: usize, n: Num) -> Deed
+    ensures line { Does env result (rule_iftag (rows_from t.now.size t.now.rows) (labels_from t.now.size t.now.labels) l v n (ty_var (vars_from t.now.size t.now.vars) env v) env) }
     ensures told { Told result }
 {
-    let (Kind::Value(r), e) = typing::var_judged(size, vars, env, v)? else {
+    let (Kind::Value(r), e) = typing::var_judged(&t.size, &t.vars, env, v)? else {
         return Err(6);
     };
     if !entry::zero_offset(e.offset) {
@@ -229,27 +213,18 @@ fn rule_iftag(
     if !matches!(e.boxed, Boxed::Block) {
         return Err(7);
     }
-    if !has_tag(size, rows, r, n) {
+    if !has_tag(&t.size, &t.rows, r, n) {
         return Err(8);
     }
-    tag_jump(size, labels, env, l, v, n, e)
+    tag_jump(&t.size, &t.labels, env, l, v, n, e)
 }
 
 #[tactic(auto, using(typing::proofs::Laws::told_var), unfolding(rules::specs::Body::rule_ifint))]
-fn rule_ifint(
-    size: &[u32; 6],
-    rows: &[u32; 17536],
-    vars: &[u32; 96],
-    labels: &[u64; 6208],
-    env: Env,
-    l: usize,
-    v: usize,
-    n: Num,
-) -> Deed
-    ensures line { Does env result (rule_ifint (rows_from size.now rows.now) (labels_from size.now labels.now) l v n (ty_var (vars_from size.now vars.now) env v) env) }
+fn rule_ifint(t: &Tables, env: Env, l: usize, v: usize, n: Num) -> Deed
+    ensures line { Does env result (rule_ifint (rows_from t.now.size t.now.rows) (labels_from t.now.size t.now.labels) l v n (ty_var (vars_from t.now.size t.now.vars) env v) env) }
     ensures told { Told result }
 {
-    let (Kind::Value(r), e) = typing::var_judged(size, vars, env, v)? else {
+    let (Kind::Value(r), e) = typing::var_judged(&t.size, &t.vars, env, v)? else {
         return Err(6);
     };
     if !entry::zero_offset(e.offset) {
@@ -258,10 +233,10 @@ fn rule_ifint(
     if !matches!(e.boxed, Boxed::Imm) {
         return Err(7);
     }
-    if !number::suits(program::psi_of(size, rows, r), n) {
+    if !number::suits(program::psi_of(&t.size, &t.rows, r), n) {
         return Err(9);
     }
-    tag_jump(size, labels, env, l, v, n, e)
+    tag_jump(&t.size, &t.labels, env, l, v, n, e)
 }
 
 #[tactic(auto, unfolding(rules::specs::Body::rule_return))]
@@ -304,61 +279,41 @@ fn gated(live: bool, x: Deed) -> Deed
 }
 
 // What the one expression of `set`, `if` and `return` is judged as. It is judged in one place for all three.
-fn own_judged(
-    size: &[u32; 6],
-    rows: &[u32; 17536],
-    vars: &[u32; 96],
-    nodes: &[u64; 4096],
-    codes: &[u64; 96],
-    count: usize,
-    way: Way,
-    k: usize,
-) -> Judged
-    ensures judgement { HasOne way → result ≡ judged_at (rows_from size.now rows.now) (vars_from size.now vars.now) (env_of codes.now count) nodes.now k }
+fn own_judged(t: &Tables, codes: &[u64; 96], count: usize, way: Way, k: usize) -> Judged
+    ensures judgement { HasOne way → result ≡ judged_at t.now (env_of codes.now count) k }
     ensures told { Told result }
 {
     match way {
-        Way::Set | Way::If | Way::Return => judged(size, rows, vars, nodes, codes, count, k),
+        Way::Set | Way::If | Way::Return => judged(t, codes, count, k),
         _ => Err(4),
     }
 }
 
 // What body line i does, which is reached or not. The codes stand for the environment.
 #[tactic(auto, using(crate::proofs::Laws::goto_line, crate::proofs::Laws::if_line, crate::proofs::Laws::ifimm_line, crate::proofs::Laws::ifint_line, crate::proofs::Laws::iftag_line, crate::proofs::Laws::label_line_lem, crate::proofs::Laws::no_line, crate::proofs::Laws::put_line_lem, crate::proofs::Laws::return_line, crate::proofs::Laws::set_line))]
-fn deed_of(
-    size: &[u32; 6],
-    rows: &[u32; 17536],
-    vars: &[u32; 96],
-    labels: &[u64; 6208],
-    nodes: &[u64; 4096],
-    body: &[u32; 2560],
-    codes: &[u64; 96],
-    on: bool,
-    env: Env,
-    i: usize,
-) -> Deed
+fn deed_of(t: &Tables, codes: &[u64; 96], on: bool, env: Env, i: usize) -> Deed
     requires { env ≡ env_of codes.now env.count }
-    ensures line { line_by labels.now (length (vars_from size.now vars.now)) env result ≡ line_at (tables_of size.now nodes.now rows.now vars.now labels.now body.now) on env i }
+    ensures line { line_by t.now.labels (length (vars_from t.now.size t.now.vars)) env result ≡ line_at t.now on env i }
     ensures told { Told result }
 {
-    let s = program::line_at(body, i);
+    let s = program::line_at(&t.body, i);
     let way = program::way_of(s.kind);
     let l = s.label as usize;
     let v = s.variable as usize;
     let n = number::number(s.word);
     let k = s.node as usize;
     let count = env.count;
-    let x = own_judged(size, rows, vars, nodes, codes, count, way, k);
+    let x = own_judged(t, codes, count, way, k);
     match way {
-        Way::Set => gated(on, rule_set(size, vars, v, x)),
-        Way::Put => gated(on, rule_put(size, rows, vars, nodes, codes, count, n, k)),
-        Way::Goto => gated(on, rule_goto(size, labels, env, l)),
-        Way::If => gated(on, rule_if(size, labels, env, l, x)),
-        Way::IfImm => gated(on, rule_ifimm(size, vars, labels, env, l, v)),
-        Way::IfTag => gated(on, rule_iftag(size, rows, vars, labels, env, l, v, n)),
-        Way::IfInt => gated(on, rule_ifint(size, rows, vars, labels, env, l, v, n)),
-        Way::Return => gated(on, rule_return(size, x)),
-        Way::Label => rule_label(size, labels, on, env, l),
+        Way::Set => gated(on, rule_set(&t.size, &t.vars, v, x)),
+        Way::Put => gated(on, rule_put(t, codes, count, n, k)),
+        Way::Goto => gated(on, rule_goto(&t.size, &t.labels, env, l)),
+        Way::If => gated(on, rule_if(&t.size, &t.labels, env, l, x)),
+        Way::IfImm => gated(on, rule_ifimm(t, env, l, v)),
+        Way::IfTag => gated(on, rule_iftag(t, env, l, v, n)),
+        Way::IfInt => gated(on, rule_ifint(t, env, l, v, n)),
+        Way::Return => gated(on, rule_return(&t.size, x)),
+        Way::Label => rule_label(&t.size, &t.labels, on, env, l),
         Way::Absent => Err(4),
     }
 }
@@ -367,18 +322,18 @@ fn deed_of(
 
 // The number for the line of variable v: of a value local N suits (9).
 #[tactic(auto, unfolding(rules::specs::Body::local_line, rules::specs::Program::kind_at))]
-fn local_line(size: &[u32; 6], rows: &[u32; 17536], vars: &[u32; 96], v: usize) -> Result<(), u32>
-    ensures { result ≡ number_out (local_line (rows_from size.now rows.now) (get_or (vars_from size.now vars.now) v no_var)) }
+fn local_line(t: &Tables, v: usize) -> Result<(), u32>
+    ensures { result ≡ number_out (local_line (rows_from t.now.size t.now.rows) (get_or (vars_from t.now.size t.now.vars) v no_var)) }
 {
-    if !program::is_local(size, vars, v) {
+    if !program::is_local(&t.size, &t.vars, v) {
         return Ok(());
     }
-    let Kind::Value(r) = program::kind_of(size, vars, v) else {
+    let Kind::Value(r) = program::kind_of(&t.size, &t.vars, v) else {
         return Ok(());
     };
     if !number::suits(
-        program::psi_of(size, rows, r),
-        program::local_number(size, vars, v),
+        program::psi_of(&t.size, &t.rows, r),
+        program::local_number(&t.size, &t.vars, v),
     ) {
         return Err(9);
     }
@@ -387,13 +342,13 @@ fn local_line(size: &[u32; 6], rows: &[u32; 17536], vars: &[u32; 96], v: usize) 
 
 // The lines of the variables. They stand after `ret` and the rows.
 #[tactic(auto, using(table::proofs::Passes::lines_done, table::proofs::Passes::lines_on, table::proofs::Passes::lines_no, crate::proofs::Laws::locals_start, program::proofs::Laws::rows_small, program::proofs::Laws::vars_small), unfolding(crate::specs::Lines::locals_in))]
-fn locals_typed(size: &[u32; 6], rows: &[u32; 17536], vars: &[u32; 96]) -> Result<(), Answer>
-    ensures { (L N B : List ℕ) → result ≡ outcome (locals_in (tables_of size.now N rows.now vars.now L B)) }
+fn locals_typed(t: &Tables) -> Result<(), Answer>
+    ensures { result ≡ outcome (locals_in t.now) }
 {
-    let from = 2 + program::row_count(size);
-    for v in 0..program::var_count(size) {
+    let from = 2 + program::row_count(&t.size);
+    for v in 0..program::var_count(&t.size) {
         let line = from + v;
-        local_line(size, rows, vars, v).map_err(|number| Answer { number, line })?;
+        local_line(t, v).map_err(|number| Answer { number, line })?;
     }
     Ok(())
 }
@@ -441,24 +396,17 @@ fn start_codes(size: &[u32; 6], vars: &[u32; 96]) -> [u64; 96]
 
 // The lines of the body, each in the environment that the line before it leaves. Its numbers are kept beside it, for the expressions.
 #[tactic(auto, using(crate::proofs::Laws::ahead_on, crate::proofs::Laws::own_count, crate::proofs::Laws::takes_in, crate::proofs::Laws::takes_past, coded::proofs::Laws::env_label), unfolding(rules::specs::Environments::with_entry))]
-fn lines_typed(
-    size: &[u32; 6],
-    rows: &[u32; 17536],
-    vars: &[u32; 96],
-    labels: &[u64; 6208],
-    nodes: &[u64; 4096],
-    body: &[u32; 2560],
-) -> Result<(), Answer>
-    ensures { result ≡ outcome (lines_in (tables_of size.now nodes.now rows.now vars.now labels.now body.now)) }
+fn lines_typed(t: &Tables) -> Result<(), Answer>
+    ensures { result ≡ outcome (lines_in t.now) }
 {
-    let count = program::var_count(size);
-    let from = 2 + program::row_count(size) + count;
+    let count = program::var_count(&t.size);
+    let from = 2 + program::row_count(&t.size) + count;
     let mut live = true;
-    let mut codes = start_codes(size, vars);
+    let mut codes = start_codes(&t.size, &t.vars);
     let mut env = coded::env_of(&codes, count);
-    for i in 0..program::line_count(size) {
+    for i in 0..program::line_count(&t.size) {
         let line = from + i;
-        let x = deed_of(size, rows, vars, labels, nodes, body, &codes, live, env, i);
+        let x = deed_of(t, &codes, live, env, i);
         let then = x.map_err(|number| Answer { number, line })?;
         live = !matches!(then, Then::Ends);
         match then {
@@ -470,7 +418,7 @@ fn lines_typed(
                 }
             }
             Then::Label(l) => {
-                codes = program::label_codes(labels, l);
+                codes = program::label_codes(&t.labels, l);
                 env = coded::env_of(&codes, count);
             }
         }
@@ -480,18 +428,11 @@ fn lines_typed(
 
 // 6 to 12, line by line.
 #[tactic(auto, using(crate::proofs::Laws::types_parts))]
-pub fn typed(
-    size: &[u32; 6],
-    rows: &[u32; 17536],
-    vars: &[u32; 96],
-    labels: &[u64; 6208],
-    nodes: &[u64; 4096],
-    body: &[u32; 2560],
-) -> Result<(), Answer>
-    ensures { result ≡ outcome (types_in (tables_of size.now nodes.now rows.now vars.now labels.now body.now)) }
+pub fn typed(t: &Tables) -> Result<(), Answer>
+    ensures { result ≡ outcome (types_in t.now) }
 {
-    locals_typed(size, rows, vars)?;
-    lines_typed(size, rows, vars, labels, nodes, body)
+    locals_typed(t)?;
+    lines_typed(t)
 }
 
 // ---- the last line

@@ -5,4 +5,4 @@ use Rattle.rules.specs.View.{rows_from, vars_from}
 use Rattle.body.proofs.locals_typed.Given as goal
 
 abbrev pub invariant-loop-v : goal.invariant-loop-v
-invariant-loop-v l = (first (l.from + l.v) (map (local_line (rows_from l.size l.rows)) (drop l.v (vars_from l.size l.vars))) ≡ first (2 + length (rows_from l.size l.rows)) (map (local_line (rows_from l.size l.rows)) (vars_from l.size l.vars)))
+invariant-loop-v l = (first (l.from + l.v) (map (local_line (rows_from l.t.size l.t.rows)) (drop l.v (vars_from l.t.size l.t.vars))) ≡ first (2 + length (rows_from l.t.size l.t.rows)) (map (local_line (rows_from l.t.size l.t.rows)) (vars_from l.t.size l.t.vars)))
