@@ -38,11 +38,7 @@ type Deed = Result<Then, u32>;
 fn same_kind(k: Kind, l: Kind) -> bool
     ensures { result ≡ same_kind k l }
 {
-    match (k, l) {
-        (Kind::Cint, Kind::Cint) => true,
-        (Kind::Value(q), Kind::Value(r)) => q == r,
-        _ => false,
-    }
+    k == l
 }
 
 // Whether row r has a product with tag n.

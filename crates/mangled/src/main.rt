@@ -72,7 +72,13 @@ impl Lent {
             vals: [0; 32],
         };
         checker::check(glue, &mut program);
-        let _answer = store::read(blocks, &program.size, &program.rows, &program.vars, &mut store);
+        let _answer = store::read(
+            blocks,
+            &program.size,
+            &program.rows,
+            &program.vars,
+            &mut store,
+        );
         Lent { program, store }
     }
 

@@ -350,6 +350,7 @@ pub enum State {
 }
 
 // How much of a store text was read. Part: 0 nothing, 1 blocks may come, 2 arguments.
+// Kept as it is: the part is a number of the definitions (`Store.Text.store_order`, `counted`), as in `Count`.
 #[derive(Clone, Copy)]
 pub struct StoreCount {
     pub part: u32,
