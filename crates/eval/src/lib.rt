@@ -13,6 +13,7 @@ ghost use Rattle.eval.specs.Walk.{form, gave, gave_at};
 use rules::{Datum, Form, Given, Limits, Num, Op};
 
 // What a node's expression gives, and the node after it.
+// Kept as it is: typing has the same of a judgement (`typing::Found`). One type over both would stand below two crates that share nothing else, and name neither field.
 #[derive(Drop)]
 pub struct Gave {
     pub given: Given,

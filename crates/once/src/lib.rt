@@ -119,6 +119,7 @@ fn set_once(
 }
 
 // `if=L E`
+// Kept as it is: like `set_once` but for what reads the first word and for where its number goes; one function over both would take these as two more parameters.
 #[tactic(auto, unfolding(crate::specs::Once::if_once, crate::specs::Once::after_mark))]
 fn if_once(
     s: &[u8],
