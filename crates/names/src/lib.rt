@@ -193,6 +193,7 @@ fn name_line(t: &Tables, trees: bool, i: usize) -> Result<(), u32>
 }
 
 // ---- one loop for each part of the file; `line` is the part's first line
+// Kept as it is: three loops that are alike in form; what a turn does and what its contract says is of another table in each.
 
 // What was said of a line, as an answer that names it.
 fn on_line(said: Result<(), u32>, line: usize) -> Result<(), Answer>

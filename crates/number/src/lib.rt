@@ -76,6 +76,7 @@ fn one_if(b: bool) -> Num
     Num { n: i32::from(b) }
 }
 
+// Kept as it is: a public function whose contract says the rules' `same_num`; it is the derived `==`.
 pub fn same(a: Num, b: Num) -> bool
     ensures { result ≡ same_num a b }
 {

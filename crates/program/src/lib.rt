@@ -77,6 +77,7 @@ pub fn var_there(size: &[u32; 6], v: usize) -> bool
 
 // ---- rows
 
+// Kept as it is: a code is a number of a table (`View.psi_code`, `kind_code`), and no conversion of the type, which other numbers could stand for.
 #[tactic(auto, unfolding(rules::specs::View::psi_code))]
 fn psi_code(c: u32) -> Psi
     ensures { result ≡ psi_code c }

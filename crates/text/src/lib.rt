@@ -7,6 +7,7 @@ ghost use Rattle.rules.specs.Text.Words as words;
 use rules::{Head, Next, Reading};
 
 // The byte at i, and 256 past the end.
+// Kept as it is: the definition of the rules (`Text.Words.byte_at`) and this contract say 256 and no Option.
 pub fn byte_at(s: &[u8], i: usize) -> u64
     ensures { result ≡ words.byte_at s.now i }
 {
@@ -16,6 +17,7 @@ pub fn byte_at(s: &[u8], i: usize) -> u64
 // ---- a reading
 
 // What was read, 0 where nothing was.
+// Kept as it is: the rules read on over what was not read too (`Text.Words.value_of`, `next_of`), and both contracts hold for it.
 pub fn value_of(r: Reading) -> u64
     ensures { result ≡ words.value_of r }
 {
