@@ -327,10 +327,11 @@ fn walk(
     if !program::is_within(depth, at) {
         return gives(Err(4), at);
     }
-    let what = program::form_of(program::operation(nodes, at));
-    if matches!(what, Form::Absent | Form::Lit | Form::Var) {
+    let op = program::operation(nodes, at);
+    if program::operands(op) == 0 {
         return gives(leaf_at(size, vars, nodes, codes, count, at), at + 1);
     }
+    let what = program::form_of(op);
     let x = operand(size, rows, vars, nodes, codes, count, depth - 1, at + 1);
     match what {
         Form::Calc(op) => {

@@ -8,7 +8,7 @@ use Rattle.program.proofs.Walk.{is_within, ends_beyond, ends_leaf, ends_one, end
 use Rattle.typing.specs.Walk.{form, found, found_at}
 use Rattle.typing.proofs.Laws.{folds, of_form, of_step, of_calc, tree_of_lem, after_of_lem}
 use Rattle.typing.proofs.+operand_walk.Goals as goal
-use Rattle.typing.proofs.+operand_walk.Goals.{walk-in-Absent, walk-in_default}
+use Rattle.typing.proofs.+operand_walk.Goals.{walk-In_default}
 
 pub operand-leaf_at-j-requires : goal.operand-leaf_at-j-requires
 operand-leaf_at-j-requires t c = (leaf_there _ _ _ c.is_leaf.ensures c.if-is_leaf.true).2
@@ -24,12 +24,12 @@ pub walk-returns-then-not-is_within : goal.walk-returns-then-not-is_within
 unfolding found_at type
 walk-returns-then-not-is_within t c = c.gives.ensures ∙ ends_beyond (type _ _ _) found _ _ _ c.is_within.ensures (ap not c.if-not-is_within.true)
 
-pub walk-returns-then-matches : goal.walk-returns-then-matches
+pub walk-returns-then-operands-eq0 : goal.walk-returns-then-operands-eq0
 unfolding found_at type
-walk-returns-then-matches t c =
+walk-returns-then-operands-eq0 t c =
     let there = is_within c.args.depth c.args.at c.is_within.ensures (ap not c.if-not-is_within.false) in
-    let none : arity (form_of c.operation.result) ≡ 0 = rw (sym c.form_of-what.ensures) (search rules) in
-    c.gives-then-matches.ensures ∙ ends_leaf (type _ _ _) found _ _ _ (form _ _ _) (folds _ _ _) _ _ _ there.0 there.1 refl refl refl _ _ _ (ap (λ (o : ℕ). arity (form_of o)) (sym c.operation.ensures) ∙ none) (c.leaf_at.ensures _)
+    let leaf_here = ap (λ (o : ℕ). arity (form_of o)) (sym c.operation-op.ensures) ∙ sym c.operands.ensures ∙ c.if-operands-eq0.true in
+    c.gives-then-operands-eq0.ensures ∙ ends_leaf (type _ _ _) found _ _ _ (form _ _ _) (folds _ _ _) _ _ _ there.0 there.1 refl refl refl _ _ _ leaf_here (c.leaf_at.ensures _)
 
 pub walk-returns-in-Calc : goal.walk-returns-in-Calc
 unfolding found_at type
@@ -38,7 +38,7 @@ walk-returns-in-Calc t c =
     let x = c.operand-x.ensures in
     let y = c.operand-y.ensures in
     let two = ap arity c.in-Calc.ensures in
-    c.gives-in-Calc.ensures ∙ ends_two (type _ _ _) found _ _ _ (form _ _ _) (folds _ _ _) _ _ _ there.0 there.1 c.operation.ensures refl refl _ _ _ _ _ (λ q. omega (arith, two, q)) (λ q. omega (arith, two, q)) (tree_of_lem _ _ _ _ _ _ _ x) (after_of_lem _ _ _ _ _ _ _ x) (tree_of_lem _ _ _ _ _ _ _ y) (after_of_lem _ _ _ _ _ _ _ y) (of_calc _ _ _ _ _ _ c.in-Calc.ensures c.tag_only-t.ensures c.ty_arith.ensures)
+    c.gives-in-Calc.ensures ∙ ends_two (type _ _ _) found _ _ _ (form _ _ _) (folds _ _ _) _ _ _ there.0 there.1 c.operation-op.ensures refl refl _ _ _ _ _ (λ q. omega (arith, two, q)) (λ q. omega (arith, two, q)) (tree_of_lem _ _ _ _ _ _ _ x) (after_of_lem _ _ _ _ _ _ _ x) (tree_of_lem _ _ _ _ _ _ _ y) (after_of_lem _ _ _ _ _ _ _ y) (of_calc _ _ _ _ _ _ c.in-Calc.ensures c.tag_only-t.ensures c.ty_arith.ensures)
 
 pub walk-returns-in-Step : goal.walk-returns-in-Step
 unfolding found_at type
@@ -47,12 +47,13 @@ walk-returns-in-Step t c =
     let x = c.operand-x.ensures in
     let y = c.operand-y-in-Step.ensures in
     let two = ap arity c.in-Step.ensures in
-    c.gives-in-Step.ensures ∙ ends_two (type _ _ _) found _ _ _ (form _ _ _) (folds _ _ _) _ _ _ there.0 there.1 c.operation.ensures refl refl _ _ _ _ _ (λ q. omega (arith, two, q)) (λ q. omega (arith, two, q)) (tree_of_lem _ _ _ _ _ _ _ x) (after_of_lem _ _ _ _ _ _ _ x) (tree_of_lem _ _ _ _ _ _ _ y) (after_of_lem _ _ _ _ _ _ _ y) (of_step _ _ _ _ _ _ c.in-Step.ensures c.ty_step.ensures)
+    c.gives-in-Step.ensures ∙ ends_two (type _ _ _) found _ _ _ (form _ _ _) (folds _ _ _) _ _ _ there.0 there.1 c.operation-op.ensures refl refl _ _ _ _ _ (λ q. omega (arith, two, q)) (λ q. omega (arith, two, q)) (tree_of_lem _ _ _ _ _ _ _ x) (after_of_lem _ _ _ _ _ _ _ x) (tree_of_lem _ _ _ _ _ _ _ y) (after_of_lem _ _ _ _ _ _ _ y) (of_step _ _ _ _ _ _ c.in-Step.ensures c.ty_step.ensures)
 
-pub walk-returns-in_default-what : goal.walk-returns-in_default-what
+pub walk-returns-in_default : goal.walk-returns-in_default
 unfolding found_at type
-walk-returns-in_default-what t c =
+walk-returns-in_default t c =
     let there = is_within c.args.depth c.args.at c.is_within.ensures (ap not c.if-not-is_within.false) in
     let x = c.operand-x.ensures in
-    let one : arity (form_of c.operation.result) ≡ 1 = rw (sym c.form_of-what.ensures) (search rules) in
-    c.gives-in_default-what.ensures ∙ ends_one (type _ _ _) found _ _ _ (form _ _ _) (folds _ _ _) _ _ _ there.0 there.1 c.operation.ensures c.argument-a.ensures refl _ _ _ _ one (tree_of_lem _ _ _ _ _ _ _ x) (after_of_lem _ _ _ _ _ _ _ x) (of_form _ _ _ _ _ _ c.form_of-what.ensures (c.one_operand.ensures _ _))
+    let some : arity c.form_of-what.result ≡ 0 → ⊥ = λ q. c.if-operands-eq0.false (c.operands.ensures ∙ ap arity (sym c.form_of-what.ensures) ∙ q) in
+    let one : arity (form_of c.operation-op.result) ≡ 1 = rw (sym c.form_of-what.ensures) (search rules) in
+    c.gives-in_default.ensures ∙ ends_one (type _ _ _) found _ _ _ (form _ _ _) (folds _ _ _) _ _ _ there.0 there.1 c.operation-op.ensures c.argument-a.ensures refl _ _ _ _ one (tree_of_lem _ _ _ _ _ _ _ x) (after_of_lem _ _ _ _ _ _ _ x) (of_form _ _ _ _ _ _ c.form_of-what.ensures (c.one_operand.ensures _ _))
