@@ -104,12 +104,11 @@ fn print_first(asked: Asked, text: &[u8], n: usize) {
     }
 }
 
-// The text of the next header; none at the end of the input.
+// The text of the next header; none at the end of the input. Where that is no last end, as at a terminal, the rest of the header is still asked for.
 fn next_text() -> Option<()> {
-    let asked = if next_byte()? == b'r' {
-        Asked::Run
-    } else {
-        Asked::Check
+    let asked = match next_byte() {
+        Some(b'r') => Asked::Run,
+        _ => Asked::Check,
     };
     pass_over(match asked {
         Asked::Run => 3,

@@ -47,16 +47,34 @@ impl Part {
     }
 }
 
-// The tables of a program and of a store that a run takes.
+// What a run is lent. It reads no rows and no declarations, so they are not kept: of the 512 KiB of stack, two of these and what reads the texts take no more than there is.
 #[derive(Clone, Copy)]
 struct Lent {
-    program: Tables,
+    size: [u32; 6],
+    nodes: [u64; 4096],
+    labels: [u64; 6208],
+    body: [u32; 2560],
     store: StoreTables,
 }
 
 impl Lent {
+    fn zero() -> Lent {
+        Lent {
+            size: [0; 6],
+            nodes: [0; 4096],
+            labels: [0; 6208],
+            body: [0; 2560],
+            store: StoreTables {
+                size: [0; 2],
+                heads: [0; 768],
+                cells: [0; 4352],
+                vals: [0; 32],
+            },
+        }
+    }
+
     // As a glue text and a store text give them. What is refused leaves tables that are zero, and the run goes on over these.
-    fn read(glue: &[u8], blocks: &[u8]) -> Lent {
+    fn read(&mut self, glue: &[u8], blocks: &[u8]) {
         let mut program = Tables {
             size: [0; 6],
             nodes: [0; 4096],
@@ -65,36 +83,33 @@ impl Lent {
             labels: [0; 6208],
             body: [0; 2560],
         };
-        let mut store = StoreTables {
-            size: [0; 2],
-            heads: [0; 768],
-            cells: [0; 4352],
-            vals: [0; 32],
-        };
         checker::check(glue, &mut program);
         let _answer = store::read(
             blocks,
             &program.size,
             &program.rows,
             &program.vars,
-            &mut store,
+            &mut self.store,
         );
-        Lent { program, store }
+        self.size = program.size;
+        self.nodes = program.nodes;
+        self.labels = program.labels;
+        self.body = program.body;
     }
 
     // One number everywhere in one table, or in all.
     fn fill(&mut self, part: Part, x: u64) {
         if part.takes_in(Part::Size) {
-            self.program.size = [low_half(x); 6];
+            self.size = [low_half(x); 6];
         }
         if part.takes_in(Part::Nodes) {
-            self.program.nodes = [x; 4096];
+            self.nodes = [x; 4096];
         }
         if part.takes_in(Part::Labels) {
-            self.program.labels = [x; 6208];
+            self.labels = [x; 6208];
         }
         if part.takes_in(Part::Body) {
-            self.program.body = [low_half(x); 2560];
+            self.body = [low_half(x); 2560];
         }
         if part.takes_in(Part::Store) {
             self.store.size = [low_half(x); 2];
@@ -112,10 +127,10 @@ impl Lent {
 
     // The generator's number is handed from table to table. The budget is kept below 64, so that each run ends soon.
     fn mangle(&mut self, all: bool, x: u64) -> u64 {
-        let x = mangle(&mut self.program.size, all, x);
-        let x = mangle(&mut self.program.nodes, all, x);
-        let x = mangle(&mut self.program.labels, all, x);
-        let x = mangle(&mut self.program.body, all, x);
+        let x = mangle(&mut self.size, all, x);
+        let x = mangle(&mut self.nodes, all, x);
+        let x = mangle(&mut self.labels, all, x);
+        let x = mangle(&mut self.body, all, x);
         let x = mangle(&mut self.store.size, all, x);
         let x = mangle(&mut self.store.heads, all, x);
         let x = mangle(&mut self.store.cells, all, x);
@@ -126,10 +141,10 @@ impl Lent {
 
     fn run(&mut self, at: usize, steps: u32, value: u64) -> Moved {
         machine::run(
-            &self.program.size,
-            &self.program.nodes,
-            &self.program.labels,
-            &self.program.body,
+            &self.size,
+            &self.nodes,
+            &self.labels,
+            &self.body,
             &self.store.size,
             &self.store.heads,
             &mut self.store.cells,
@@ -160,7 +175,8 @@ fn low_half(x: u64) -> u32 {
 fn line(pattern: &[u8], x: u64, name: &[u8], part: Part) {
     io::write_all(STDOUT_FILENO, pattern);
     io::write_all(STDOUT_FILENO, name);
-    let mut t = Lent::read(&SUM_GLUE, &SUM_STORE);
+    let mut t = Lent::zero();
+    t.read(&SUM_GLUE, &SUM_STORE);
     t.fill(part, x);
     let at = if part == Part::At { x as usize } else { 0 };
     let value = if part == Part::Value { x } else { 0 };
@@ -323,14 +339,20 @@ impl Tally {
         self.drawn = c;
     }
 
-    // Machines that start from the tables of two texts, which are copied and mangled for each.
+    // A machine of its own: the tables are copied, mangled and run.
+    fn run_mangled(&mut self, start: &Lent) {
+        let mut t = *start;
+        let all = self.drawn % 64 == 0;
+        self.drawn = t.mangle(all, next(self.drawn));
+        self.run(&mut t);
+    }
+
+    // Machines that start from the tables of two texts.
     fn run_from(&mut self, count: u64, glue: &[u8], blocks: &[u8]) {
-        let start = Lent::read(glue, blocks);
+        let mut start = Lent::zero();
+        start.read(glue, blocks);
         for _ in 0..count {
-            let mut t = start;
-            let all = self.drawn % 64 == 0;
-            self.drawn = t.mangle(all, next(self.drawn));
-            self.run(&mut t);
+            self.run_mangled(&start);
         }
     }
 }
