@@ -78,11 +78,11 @@ text_clear s = by_when Clear (ltb limits.bytes (length s)) _ _ (λ z h. refl) (�
 
 -- ---- the answer and the tables
 
-refused : (s : List ℕ) (a : Answer) (v : Verdict) (t : Tables) → v ≡ case_of a → (checked s).verdict ≡ a → (a.number ≡ 0 → ⊥) → t ≡ zeros → Says (checked s) v t
+pub refused : (s : List ℕ) (a : Answer) (v : Verdict) (t : Tables) → v ≡ case_of a → (checked s).verdict ≡ a → (a.number ≡ 0 → ⊥) → t ≡ zeros → Says (checked s) v t
 unfolding verdict
 refused s a v t k e n h = record { answer = k ∙ ap case_of (sym e); tables = h ∙ sym (refused_tables s (λ z. n (subst (λ (x : Answer). x.number ≡ 0) e z))) }
 
-passed : (s : List ℕ) (a : Answer) (t : Tables) → (checked s).verdict ≡ a → a.number ≡ 0 → t ≡ (read_text s).tables → Says (checked s) C.Accepted t
+pub passed : (s : List ℕ) (a : Answer) (t : Tables) → (checked s).verdict ≡ a → a.number ≡ 0 → t ≡ (read_text s).tables → Says (checked s) C.Accepted t
 unfolding verdict case_of
 passed s a t e z h =
     let p : (checked s).verdict ≡ accepted = verdict_plain s (subst (λ (x : Answer). x.number ≡ 0) (sym e) z) in
@@ -105,7 +105,7 @@ module _ (s : List ℕ) (t : Tables) (e : t ≡ zeros) {r : Result Unit Answer} 
   answered : r ≡ outcome (read_text s).answer
   answered = h.answer ∙ ap (λ (o : TextOut). outcome o.answer) fresh
 
-  as_read : u ≡ (read_text s).tables
+  pub as_read : u ≡ (read_text s).tables
   as_read = h.tables ∙ ap (λ (o : TextOut). o.tables) fresh
 
   abbrev rest : One → Answer

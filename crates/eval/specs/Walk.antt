@@ -1,9 +1,10 @@
 -- What the tree at a node gives in the machine, with the node after it; and what a node gives, from what its operands give. Assumes nothing.
-use Rattle.std.specs.Prelude.{Some, None}
+use Rattle.std.specs.Prelude.{◌≡◌, Some, None}
 use Rattle.rules.specs.declared.Form.{Form}
 use Rattle.rules.specs.declared.Form.TheVariants as M
-use Rattle.rules.specs.Prelude.{ℕ, List}
-use Rattle.rules.specs.declared.Datum.TheVariants.{Int}
+use Rattle.rules.specs.Prelude.{ℕ, List, refl}
+use Rattle.rules.specs.declared.Datum.TheVariants.{Int, Imm, Place}
+use Rattle.rules.specs.declared.Op.{Op}
 use Rattle.rules.specs.Machine.{Given}
 use Rattle.rules.specs.Numbers.{num_code}
 use Rattle.rules.specs.Program.{Rows}
@@ -11,6 +12,20 @@ use Rattle.rules.specs.View.{tree_of, tree_at}
 use Rattle.rules.specs.Machine.{Store, ev_var, ev_arith, ev_val, ev_int, ev_fetch, ev_step, eval}
 use Rattle.program.specs.Nodes.{after_of}
 use Rattle.eval.specs.declared.Gave.{Gave}
+
+-- of an operand of arithmetic, what plays a part: the int that it is
+abbrev pub int_only : Given → Given
+int_only None = None
+int_only (Some (Int n)) = Some (Int n)
+int_only (Some (Imm n)) = None
+int_only (Some (Place b o)) = None
+
+pub arith_ints : (o : Op) (x y : Given) → ev_arith o (int_only x) y ≡ ev_arith o x y
+unfolding ev_arith
+arith_ints o None y = refl
+arith_ints o (Some (Int n)) y = refl
+arith_ints o (Some (Imm n)) y = refl
+arith_ints o (Some (Place b i)) y = refl
 
 -- what a node gives, from its argument and what its operands give
 unfoldable pub form : Rows → Store → List Given → Form → ℕ → Given → Given → Given

@@ -7,10 +7,10 @@ use Rattle.rules.specs.Machine.{Given}
 use Rattle.rules.specs.declared.Stepped.{Stepped}
 use Rattle.rules.specs.When.{when}
 use Rattle.rules.specs.Program.{Prog}
-use Rattle.rules.specs.Machine.Tables.{MTables, datum_code, apply_t, step_from_t, step_t, spent, step_within}
+use Rattle.rules.specs.Machine.Tables.{MTables, datum_code, apply_t, step_from_t, step_t, spent, step_within, says_within}
 use Rattle.moves.specs.Moves.{lines, parts, Moves}
 use Rattle.machine.specs.declared.Machine.{Machine}
-use Rattle.machine.specs.Steps.{tables_in, Steps}
+use Rattle.machine.specs.Steps.{tables_in, lent_to, Steps}
 
 -- ---- what no step alters
 
@@ -55,3 +55,26 @@ module _ (Z N L B S H : List ℕ) (m : Machine) (r : Stepped) (m' : Machine) (e 
   -- and it holds the same two tables after it
   pub same_tables : (m'.cells.ghost_name ≡ m.cells.ghost_name) × (m'.vals.ghost_name ≡ m.vals.ghost_name)
   same_tables = (ap (λ (x : Machine). x.cells.ghost_name) (e [] []).1, ap (λ (x : Machine). x.vals.ghost_name) (e [] []).1)
+
+-- what `step` says of the machine at m is what is said of its parts
+module _ (Z N L B S H : List ℕ) (m : Machine) (r : Stepped) (m' : Machine) where
+  abbrev t : MTables
+  t = tables_in S H m
+
+  abbrev t' : MTables
+  t' = step_within (lines Z N L B [] []) t
+
+  pub told_once : Steps Z N L B S H m r m' → Moves Z N L B t (record { out = says_within (lines Z N L B [] []) t; at = t'.at; steps = t'.steps; value = t'.value }) t'.cells t'.vals
+  told_once e R D = (sym (e [] []).0 ∙ (e R D).0, ap (tables_in S H) (sym (e [] []).1 ∙ (e R D).1) ∙ whole t (step_within (lines Z N L B R D) t) (step_keeps (lines Z N L B R D) t))
+
+-- The parts of a machine that was lent for one step: what is left behind the two borrows, C and W, is what the machine holds last, if they are the borrows that it was made of.
+pub once_of : (Z N L B S H : List ℕ) (m : Machine) (r : Stepped) (m' : Machine) (C W : List ℕ) → Steps Z N L B S H m r m'
+    → (m.cells.ghost_name ≡ m'.cells.ghost_name → C ≡ m'.cells.now) → (m.vals.ghost_name ≡ m'.vals.ghost_name → W ≡ m'.vals.now)
+    → Moves Z N L B (tables_in S H m) (record { out = r; at = m'.at; steps = m'.steps; value = m'.value }) C W
+once_of Z N L B S H m r m' C W e cells vals R D =
+    let t : MTables = tables_in S H m in
+    let u : MTables = step_within (lines Z N L B R D) t in
+    let same : m' ≡ lent_to m u = (e R D).1 in
+    let c : C ≡ m'.cells.now = cells (ap (λ (x : Machine). x.cells.ghost_name) (sym same)) in
+    let w : W ≡ m'.vals.now = vals (ap (λ (x : Machine). x.vals.ghost_name) (sym same)) in
+    ((e R D).0, (λ i. parts S H (c i) (w i) m'.at m'.steps m'.value) ∙ ap (tables_in S H) same ∙ whole t u (step_keeps (lines Z N L B R D) t))

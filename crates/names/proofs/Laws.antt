@@ -1,5 +1,6 @@
 -- Laws of the tests of all, of the stage's parts, of the tree walk, and of a body line by its kind's number. Assumes nothing.
 use native.Mathlib.Omega.{arith as lin}
+use native.Mathlib.Decide.{dec_lt}
 use Rattle.rules.specs.declared.Form.{Form}
 use Rattle.rules.specs.declared.Way.{Way}
 use Rattle.rules.specs.declared.Op.{Op}
@@ -7,7 +8,7 @@ use Rattle.rules.specs.declared.Form.TheVariants as M
 use Rattle.rules.specs.declared.Way.TheVariants as W
 use mathlib.Core.Logic.{◌⊎◌, inl, inr}
 use mathlib.Core.Path.{ap₂}
-use lib.ListN.{length-map}
+use lib.ListN.{get_or-eq_default, get_or-map, length-map}
 use borrow.Author.Tests.{ne_eqb}
 use Rattle.std.specs.Bool.{then_some}
 use Rattle.std.specs.Option.{is_some}
@@ -17,10 +18,10 @@ use Rattle.rules.specs.declared.Answer.{Answer}
 use Rattle.rules.specs.Numbers.{num_code}
 use Rattle.rules.specs.Answers.{answer, and_then, outcome, first}
 use Rattle.rules.specs.Environments.{no_var}
-use Rattle.rules.specs.Program.{Prog, Var, Expr, Stmt, bad_s, set_s, put_s, if_s, return_s, row_there, kind_at, label_at, no_entry}
-use Rattle.rules.specs.View.{vars_from, labels_from, label_from, entry_from, Walked, walked, form_of, tree_at, way_of, tree_of, with_one, with_two, stmt_of, stmt_from, body_from}
+use Rattle.rules.specs.Program.{Prog, Var, Expr, Stmt, bad_s, set_s, put_s, goto_s, if_s, ifimm_s, iftag_s, ifint_s, return_s, row_there, kind_at, label_at, no_entry}
+use Rattle.rules.specs.View.{tab, vars_from, labels_from, label_from, entry_from, Walked, walked, form_of, tree_at, way_of, tree_of, with_one, with_two, stmt_of, stmt_from, body_from}
 use Rattle.rules.specs.Names.{expr_there, fields_there, products_there, entry_suits, entries_suit, label_suits, name_kind, name_row, name_var}
-use Rattle.rules.proofs.Laws.Lists.{tab_length}
+use Rattle.rules.proofs.Laws.Lists.{tab_length, tab_in}
 use Rattle.table.proofs.Passes.{left_more, left_none, accepts, refuses, outcome_on, outcome_no, first_append, lines_done, lines_on, lines_no}
 use Rattle.program.specs.declared.Stored.{Stored}
 use Rattle.program.specs.Lines.{stored_at}
@@ -222,25 +223,59 @@ module _ (P : Prog) (N : List ℕ) (d k : ℕ) where
 
 -- ---- a line that is no label
 
+-- the number of its kind
+kind_of : Way → ℕ
+kind_of W.Absent = 0
+kind_of W.Set = 1
+kind_of W.Put = 2
+kind_of W.Goto = 3
+kind_of W.If = 4
+kind_of W.IfImm = 5
+kind_of W.IfTag = 6
+kind_of W.IfInt = 7
+kind_of W.Return = 8
+kind_of W.Label = 9
+
+kinds : (k : ℕ) → kind_of (way_of k) ≡ get_or (tab 10 (λ i. i)) k 0
+unfolding way_of tab kind_of
+kinds k = sym (get_or-map kind_of (W.Absent ∷ W.Set ∷ W.Put ∷ W.Goto ∷ W.If ∷ W.IfImm ∷ W.IfTag ∷ W.IfInt ∷ W.Return ∷ W.Label ∷ []) k W.Absent)
+
+label_by : (k : ℕ) → Dec (k < 10) → way_of k ≡ W.Label → k ≡ 9
+unfolding kind_of
+label_by k (yes h) e = sym (tab_in 10 (λ i. i) k 0 h) ∙ sym (kinds k) ∙ ap kind_of e
+label_by k (no h) e = let z : ◌≡◌ {A = ℕ} 9 0 = sym (ap kind_of e) ∙ kinds k ∙ get_or-eq_default (tab 10 (λ i. i)) 0 {n = k} (rw (tab_length 10 (λ i. i)) (omega (lin, h))) in absurd (omega lin)
+
+-- what is b of every other statement is b of such a line, by its way and by the number of its kind
+module _ (q : Stmt → Bool) (b : Bool) (N : List ℕ) where
+  one_by : (f : Expr → Stmt) → ((x : Expr) → q (f x) ≡ b) → (w : Walked) → q (with_one f w) ≡ b
+  one_by f h (walked x n) = h x
+
+  two_by : (f : Expr → Expr → Stmt) → ((x y : Expr) → q (f x y) ≡ b) → (w : Walked) → q (with_two N f w) ≡ b
+  two_by f h (walked x n) = h x _
+
+  module _ (l v w k : ℕ) (none : q bad_s ≡ b) (set : (x : Expr) → q (set_s v x) ≡ b) (put : (x y : Expr) → q (put_s x (num_code w) y) ≡ b) (goto : q (goto_s l) ≡ b)
+      (if : (x : Expr) → q (if_s l x) ≡ b) (ifimm : q (ifimm_s l v) ≡ b) (iftag : q (iftag_s l v (num_code w)) ≡ b) (ifint : q (ifint_s l v (num_code w)) ≡ b)
+      (return : (x : Expr) → q (return_s x) ≡ b) where
+    pub no_label : (way : Way) → (way ≡ W.Label → ⊥) → q (stmt_of N way l v w k) ≡ b
+    unfolding stmt_of
+    no_label W.Absent h = none
+    no_label W.Set h = one_by (set_s v) set (tree_at N 16 k)
+    no_label W.Put h = two_by (λ x y. put_s x (num_code w) y) put (tree_at N 16 k)
+    no_label W.Goto h = goto
+    no_label W.If h = one_by (if_s l) if (tree_at N 16 k)
+    no_label W.IfImm h = ifimm
+    no_label W.IfTag h = iftag
+    no_label W.IfInt h = ifint
+    no_label W.Return h = one_by return_s return (tree_at N 16 k)
+    no_label W.Label h = absurd (h refl)
+
+    pub other_kind : (kind : ℕ) → (kind ≡ 9 → ⊥) → q (stmt_of N (way_of kind) l v w k) ≡ b
+    other_kind kind h = no_label (way_of kind) (λ e. h (label_by kind (dec_lt kind 10) e))
+
+-- any entries suit it
 module _ (P : Prog) (N : List ℕ) (l v w k : ℕ) where
-  one_by : (f : Expr → Stmt) → ((x : Expr) → label_suits P (f x) ≡ true) → (t : Walked) → true ≡ label_suits P (with_one f t)
-  one_by f h (walked x n) = sym (h x)
-
-  two_by : (f : Expr → Expr → Stmt) → ((x y : Expr) → label_suits P (f x y) ≡ true) → (t : Walked) → true ≡ label_suits P (with_two N f t)
-  two_by f h (walked x n) = sym (h x _)
-
   pub other_line : (way : Way) → (way ≡ W.Label → ⊥) → true ≡ label_suits P (stmt_of N way l v w k)
-  unfolding stmt_of
-  other_line W.Absent h = refl
-  other_line W.Set h = one_by (set_s v) (λ x. refl) (tree_at N 16 k)
-  other_line W.Put h = two_by (λ x y. put_s x (num_code w) y) (λ x y. refl) (tree_at N 16 k)
-  other_line W.Goto h = refl
-  other_line W.If h = one_by (if_s l) (λ x. refl) (tree_at N 16 k)
-  other_line W.IfImm h = refl
-  other_line W.IfTag h = refl
-  other_line W.IfInt h = refl
-  other_line W.Return h = one_by return_s (λ x. refl) (tree_at N 16 k)
-  other_line W.Label h = absurd (h refl)
+  other_line way h = sym (no_label (label_suits P) true N l v w k refl (λ x. refl) (λ x y. refl) refl (λ x. refl) refl refl refl (λ x. refl) way h)
 
 -- ---- a line and its parts
 

@@ -2,5 +2,6 @@
 pub mod Exprs
 pub mod Keys
 pub mod Mark
+mod Ways
 mod Shaped
 pub mod Right

@@ -3,8 +3,8 @@ use mathlib.Core.Logic.{⊎_elim}
 use Rattle.rules.specs.declared.Key.{Key}
 use Rattle.rules.specs.declared.Key.TheVariants as K
 use native.Mathlib.Omega.{arith}
-use borrow.Author.Tests.{eqb-true, eq-eqb}
-use Rattle.std.specs.Prelude.{◌+◌, ◌≡◌, Some, None, Ok, Err}
+use borrow.Author.Tests.{ltb-true, eqb-true, eq-eqb}
+use Rattle.std.specs.Prelude.{◌+◌, ◌<◌, ◌≡◌, Some, None, Ok, Err}
 use Rattle.rules.specs.Prelude.{ℕ, Bool, true, false, List, refl, ap, sym, ◌∙◌, ltb, eqb}
 use Rattle.rules.specs.declared.Count.{Count}
 use Rattle.rules.specs.Text.Words.{Reading}
@@ -142,3 +142,12 @@ module _ (s : List ℕ) (c : Count) (t : Tables) where
       → Told (line_once s key at c.lines c.nodes t.nodes t.body) (line_shape s vars (key_of key) at) (fill_line s (key_of key) at c t)
   unfolding line_once
   line_told vars key at h = key_told vars at (key_of key) h
+
+-- so there was room for the line
+pub line_room : (s : List ℕ) (key at i free : ℕ) (N B M C : List ℕ) (n f : ℕ) → once (Some (n, f)) M C ≡ line_once s key at i free N B → i < 512
+unfolding line_once
+line_room s key at i free N B M C n f q = by (ltb i 512) refl
+  where
+    by : (b : Bool) → ltb i 512 ≡ b → i < 512
+    by true e = ltb-true i 512 e
+    by false e = let h : once (Some (n, f)) M C ≡ once None N B = q ∙ rw e in let x : ◌≡◌ {A = ℕ} 0 1 = cc in absurd (omega arith)

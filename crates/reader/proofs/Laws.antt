@@ -171,3 +171,7 @@ right_left (Err a) t e = none (sym e)
 
 pub holds : {o : TextOut} {r : Result Unit Answer} {t u : Tables} → Closed r t o → u ≡ left r t → Holds o r u
 holds h e = record { answer = h.answer; tables = e ∙ h.tables }
+
+-- for callers: the tables as they are
+pub tables_are_lem : {o : TextOut} {a : Result Unit Answer} {t : Tables} → Holds o a t → t ≡ o.tables
+tables_are_lem h = h.tables

@@ -16,7 +16,7 @@ use Rattle.rules.specs.Text.Fill.{Filled, filled, fill_line}
 use Rattle.text.proofs.Laws.{inside}
 use Rattle.once.specs.Once.{Onced, once, line_once, has_expr}
 use Rattle.once.proofs.Keys.{none}
-use Rattle.once.proofs.Right.{Refuses, Told, line_told}
+use Rattle.once.proofs.Right.{Refuses, Told, line_told, line_room}
 use Rattle.reader.specs.Read.{Within, Late, given, handed, kept, settled}
 use Rattle.reader.proofs.Laws.{FitsLined}
 
@@ -94,6 +94,9 @@ module _ (s : List ℕ) (k at : ℕ) (c : Count) (t : Tables) (e : has_expr (key
       (sym q ∙ ap (λ (z : Filling). once z M B) h) (line_told s c t c.vars k at e)
 
   module _ {n f : ℕ} (h : r ≡ Some (n, f)) where
+    pub once_room : c.lines < 512
+    once_room = line_room s k at c.lines c.nodes t.nodes t.body M B n f (ap (λ (z : Filling). once z M B) (sym h) ∙ q)
+
     pub once_inside : n < length s
     once_inside = inside s n (omega (arith, (told_as _ h).1))
 
