@@ -177,5 +177,17 @@ storage_put_val κs a x y s t = lent
 pub storage_put_sizes : Determined storage_clauses.put_sizes.ended storage.put_sizes.Reads.Learnt
 storage_put_sizes κs a x y s t = lent
 
+pub storage_clear_size : Determined storage_clauses.clear_size.ended storage.clear_size.Reads.Learnt
+storage_clear_size κs a x y s t = lent
+
+pub storage_clear_heads : Determined storage_clauses.clear_heads.ended storage.clear_heads.Reads.Learnt
+storage_clear_heads κs a x y s t = lent
+
+pub storage_clear_cells : Determined storage_clauses.clear_cells.ended storage.clear_cells.Reads.Learnt
+storage_clear_cells κs a x y s t = lent
+
+pub storage_clear_vals : Determined storage_clauses.clear_vals.ended storage.clear_vals.Reads.Learnt
+storage_clear_vals κs a x y s t = lent
+
 pub storage_clear : Determined storage_clauses.clear.ended storage.clear.Reads.Learnt
 storage_clear κs a x y s t = lent

@@ -7,6 +7,7 @@ use mathlib.Core.List.{List, []}
 use Prim.Native.Nat.{ℕ, ◌+◌, ◌-◌, ◌*◌, ◌<◌, ◌≤◌}
 use lib.ListN.{length, get_or, replicate, get_or-eq_default}
 use lib.Seq.{set_out}
+use Rattle.rules.specs.declared.StoreTables.{StoreTables}
 use Rattle.rules.specs.Limits.{limits}
 use Rattle.rules.specs.Text.Layout.{cell}
 use Rattle.rules.proofs.Laws.Lists.{tab_length, tab_in, up_to_le}
@@ -111,6 +112,10 @@ head_past H b r t n h = rw (set_out H (b * 3) r h, set_out H (b * 3 + 1) t (omeg
 pub nothing_is : no_store_tables ≡ record { size = replicate 2 0; heads = replicate 768 0; cells = replicate 4352 0; vals = replicate 32 0 }
 unfolding no_store_tables
 nothing_is = refl
+
+-- tables that are the same, one by one
+pub tables_same : {Z Z' H H' C C' W W' : List ℕ} → Z ≡ Z' → H ≡ H' → C ≡ C' → W ≡ W' → ◌≡◌ {A = StoreTables} (record { size = Z; heads = H; cells = C; vals = W }) (record { size = Z'; heads = H'; cells = C'; vals = W' })
+tables_same z h c w = λ i. record { size = z i; heads = h i; cells = c i; vals = w i }
 
 pub cleared : (H C : List ℕ) → store_of (replicate 2 0) H C ≡ []
 unfolding store_of up_to tab

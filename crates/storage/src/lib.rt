@@ -136,13 +136,36 @@ pub fn put_sizes(size: &mut [u32; 2], budget: u32, blocks: u32)
 
 // ---- clearing
 
+pub fn clear_size(size: &mut [u32; 2])
+    ensures { size.new ≡ replicate 2 0 }
+{
+    *size = [0; 2];
+}
+
+pub fn clear_heads(heads: &mut [u32; 768])
+    ensures { heads.new ≡ replicate 768 0 }
+{
+    *heads = [0; 768];
+}
+
+pub fn clear_cells(cells: &mut [u64; 4352])
+    ensures { cells.new ≡ replicate 4352 0 }
+{
+    *cells = [0; 4352];
+}
+
+pub fn clear_vals(vals: &mut [u64; 32])
+    ensures { vals.new ≡ replicate 32 0 }
+{
+    *vals = [0; 32];
+}
+
 // All tables of a store.
-#[tactic(auto, unfolding(rules::specs::Store::Fill::no_store_tables))]
 pub fn clear(t: &mut StoreTables)
     ensures { t.new ≡ no_store_tables }
 {
-    t.size = [0; 2];
-    t.heads = [0; 768];
-    t.cells = [0; 4352];
-    t.vals = [0; 32];
+    clear_size(&mut t.size);
+    clear_heads(&mut t.heads);
+    clear_cells(&mut t.cells);
+    clear_vals(&mut t.vals);
 }
