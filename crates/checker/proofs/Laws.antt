@@ -13,9 +13,10 @@ use Rattle.rules.specs.declared.Tables.{Tables}
 use Rattle.rules.specs.Text.Layout.{nothing, zeros}
 use Rattle.rules.specs.Text.{TextOut, Lined, lined, and_line, line_at, lines_from, most_lines, read_text}
 use Rattle.rules.specs.View.{program}
+use Rattle.program.specs.Lines.{tables_of}
 use Rattle.rules.specs.Names.{names}
 use Rattle.rules.specs.Body.{ends}
-use Rattle.rules.specs.Check.{check, Checked, checked, verdict}
+use Rattle.rules.specs.Check.{check, checked, verdict}
 use Rattle.rules.proofs.Laws.Tests.{by_when}
 use Rattle.rules.proofs.Laws.Accepts.{refused_tables, accepted_tables, verdict_plain}
 use Rattle.table.proofs.Passes.{then_no}
@@ -55,6 +56,10 @@ module _ (t : Tables) {b : Bool} {r : Result Unit Answer} (er : r ≡ outcome (t
 
     pub by_ends : {u : Unit {0}} → r ≡ Ok u → {q : Result Unit Answer} → q ≡ outcome (ends (program t)) → q ≡ outcome (check (program t))
     by_ends e w = w ∙ ap outcome (sym (on ∙ outcome_on _ _ (sym e ∙ er)))
+
+    -- with the tables named one by one, as the contract of `body::ended` names them
+    pub by_last : {u : Unit {0}} → r ≡ Ok u → {q : Result Unit Answer} → q ≡ outcome (ends (program (tables_of t.size t.nodes t.rows t.vars t.labels t.body))) → q ≡ outcome (check (program t))
+    by_last e w = by_ends e w
 
 -- ---- a text that is refused leaves nothing
 

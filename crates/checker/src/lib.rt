@@ -11,6 +11,7 @@ ghost use Rattle.checker.specs.Says.{Says};
 use rules::{Answer, Tables, Verdict};
 
 // Answers 4 to 13 for the program in the tables. Typing comes before the names, and its answer is kept back: where it refuses nothing, every name in an expression exists, and the expressions are not walked for them.
+#[tactic(auto, using(crate::proofs::Laws::by_names, crate::proofs::Laws::by_types, crate::proofs::Laws::by_last))]
 fn program_judged(t: &Tables) -> Result<(), Answer>
     ensures { result ≡ outcome (check_program (program t.now)) }
 {

@@ -524,6 +524,7 @@ fn nothing() -> Count
 }
 
 // The program is written over what the tables held, or the text is refused with an answer 1 to 3; then they are all 0.
+#[tactic(auto, using(crate::proofs::Laws::holds, crate::proofs::Laws::refused_zeros, crate::proofs::Laws::right_left, crate::proofs::Ways::closed_refused, crate::proofs::Ways::not_long, crate::proofs::Ways::too_long))]
 pub fn read(s: &[u8], t: &mut Tables) -> Result<(), Answer>
     ensures { Holds (read_over s.now t.old) result t.new }
 {
