@@ -47,23 +47,24 @@ impl Part {
     }
 }
 
-// What a run is lent. It reads no rows and no declarations, so they are not kept: of the 512 KiB of stack, two of these and what reads the texts take no more than there is.
+// The tables that a glue text and a store text give.
 #[derive(Clone, Copy)]
-struct Lent {
-    size: [u32; 6],
-    nodes: [u64; 4096],
-    labels: [u64; 6208],
-    body: [u32; 2560],
+struct Start {
+    program: Tables,
     store: StoreTables,
 }
 
-impl Lent {
-    fn zero() -> Lent {
-        Lent {
-            size: [0; 6],
-            nodes: [0; 4096],
-            labels: [0; 6208],
-            body: [0; 2560],
+impl Start {
+    fn zero() -> Start {
+        Start {
+            program: Tables {
+                size: [0; 6],
+                nodes: [0; 4096],
+                rows: [0; 17536],
+                vars: [0; 96],
+                labels: [0; 6208],
+                body: [0; 2560],
+            },
             store: StoreTables {
                 size: [0; 2],
                 heads: [0; 768],
@@ -73,82 +74,85 @@ impl Lent {
         }
     }
 
-    // As a glue text and a store text give them. What is refused leaves tables that are zero, and the run goes on over these.
+    // What is refused leaves tables that are zero, and the run goes on over these.
     fn read(&mut self, glue: &[u8], blocks: &[u8]) {
-        let mut program = Tables {
-            size: [0; 6],
-            nodes: [0; 4096],
-            rows: [0; 17536],
-            vars: [0; 96],
-            labels: [0; 6208],
-            body: [0; 2560],
-        };
-        checker::check(glue, &mut program);
+        checker::check(glue, &mut self.program);
         let _answer = store::read(
             blocks,
-            &program.size,
-            &program.rows,
-            &program.vars,
+            &self.program.size,
+            &self.program.rows,
+            &self.program.vars,
             &mut self.store,
         );
-        self.size = program.size;
-        self.nodes = program.nodes;
-        self.labels = program.labels;
-        self.body = program.body;
     }
+}
 
+// What a run is lent. It reads no rows and no declarations: a machine of its own has none, so that two fit into 512 KiB of stack.
+#[derive(Drop)]
+struct Lent<'a> {
+    size: &'a mut [u32; 6],
+    nodes: &'a mut [u64; 4096],
+    labels: &'a mut [u64; 6208],
+    body: &'a mut [u32; 2560],
+    store: &'a mut [u32; 2],
+    heads: &'a mut [u32; 768],
+    cells: &'a mut [u64; 4352],
+    vals: &'a mut [u64; 32],
+}
+
+impl<'a> Lent<'a> {
     // One number everywhere in one table, or in all.
     fn fill(&mut self, part: Part, x: u64) {
         if part.takes_in(Part::Size) {
-            self.size = [low_half(x); 6];
+            *self.size = [low_half(x); 6];
         }
         if part.takes_in(Part::Nodes) {
-            self.nodes = [x; 4096];
+            *self.nodes = [x; 4096];
         }
         if part.takes_in(Part::Labels) {
-            self.labels = [x; 6208];
+            *self.labels = [x; 6208];
         }
         if part.takes_in(Part::Body) {
-            self.body = [low_half(x); 2560];
+            *self.body = [low_half(x); 2560];
         }
         if part.takes_in(Part::Store) {
-            self.store.size = [low_half(x); 2];
+            *self.store = [low_half(x); 2];
         }
         if part.takes_in(Part::Heads) {
-            self.store.heads = [low_half(x); 768];
+            *self.heads = [low_half(x); 768];
         }
         if part.takes_in(Part::Cells) {
-            self.store.cells = [x; 4352];
+            *self.cells = [x; 4352];
         }
         if part.takes_in(Part::Vals) {
-            self.store.vals = [x; 32];
+            *self.vals = [x; 32];
         }
     }
 
     // The generator's number is handed from table to table. The budget is kept below 64, so that each run ends soon.
     fn mangle(&mut self, all: bool, x: u64) -> u64 {
-        let x = mangle(&mut self.size, all, x);
-        let x = mangle(&mut self.nodes, all, x);
-        let x = mangle(&mut self.labels, all, x);
-        let x = mangle(&mut self.body, all, x);
-        let x = mangle(&mut self.store.size, all, x);
-        let x = mangle(&mut self.store.heads, all, x);
-        let x = mangle(&mut self.store.cells, all, x);
-        let x = mangle(&mut self.store.vals, all, x);
-        self.store.size[0] = (x % 64) as u32;
+        let x = mangle(self.size, all, x);
+        let x = mangle(self.nodes, all, x);
+        let x = mangle(self.labels, all, x);
+        let x = mangle(self.body, all, x);
+        let x = mangle(self.store, all, x);
+        let x = mangle(self.heads, all, x);
+        let x = mangle(self.cells, all, x);
+        let x = mangle(self.vals, all, x);
+        self.store[0] = (x % 64) as u32;
         next(x)
     }
 
     fn run(&mut self, at: usize, steps: u32, value: u64) -> Moved {
         machine::run(
-            &self.size,
-            &self.nodes,
-            &self.labels,
-            &self.body,
-            &self.store.size,
-            &self.store.heads,
-            &mut self.store.cells,
-            &mut self.store.vals,
+            self.size,
+            self.nodes,
+            self.labels,
+            self.body,
+            self.store,
+            self.heads,
+            self.cells,
+            self.vals,
             at,
             steps,
             value,
@@ -175,8 +179,18 @@ fn low_half(x: u64) -> u32 {
 fn line(pattern: &[u8], x: u64, name: &[u8], part: Part) {
     io::write_all(STDOUT_FILENO, pattern);
     io::write_all(STDOUT_FILENO, name);
-    let mut t = Lent::zero();
-    t.read(&SUM_GLUE, &SUM_STORE);
+    let mut start = Start::zero();
+    start.read(&SUM_GLUE, &SUM_STORE);
+    let mut t = Lent {
+        size: &mut start.program.size,
+        nodes: &mut start.program.nodes,
+        labels: &mut start.program.labels,
+        body: &mut start.program.body,
+        store: &mut start.store.size,
+        heads: &mut start.store.heads,
+        cells: &mut start.store.cells,
+        vals: &mut start.store.vals,
+    };
     t.fill(part, x);
     let at = if part == Part::At { x as usize } else { 0 };
     let value = if part == Part::Value { x } else { 0 };
@@ -340,8 +354,25 @@ impl Tally {
     }
 
     // A machine of its own: the tables are copied, mangled and run.
-    fn run_mangled(&mut self, start: &Lent) {
-        let mut t = *start;
+    fn run_mangled(&mut self, start: &Start) {
+        let mut size = start.program.size;
+        let mut nodes = start.program.nodes;
+        let mut labels = start.program.labels;
+        let mut body = start.program.body;
+        let mut store = start.store.size;
+        let mut heads = start.store.heads;
+        let mut cells = start.store.cells;
+        let mut vals = start.store.vals;
+        let mut t = Lent {
+            size: &mut size,
+            nodes: &mut nodes,
+            labels: &mut labels,
+            body: &mut body,
+            store: &mut store,
+            heads: &mut heads,
+            cells: &mut cells,
+            vals: &mut vals,
+        };
         let all = self.drawn % 64 == 0;
         self.drawn = t.mangle(all, next(self.drawn));
         self.run(&mut t);
@@ -349,7 +380,7 @@ impl Tally {
 
     // Machines that start from the tables of two texts.
     fn run_from(&mut self, count: u64, glue: &[u8], blocks: &[u8]) {
-        let mut start = Lent::zero();
+        let mut start = Start::zero();
         start.read(glue, blocks);
         for _ in 0..count {
             self.run_mangled(&start);
