@@ -19,7 +19,7 @@ use Rattle.rules.specs.Body.{ends}
 use Rattle.rules.specs.Check.{check, checked, verdict}
 use Rattle.rules.proofs.Laws.Tests.{by_when}
 use Rattle.rules.proofs.Laws.Accepts.{refused_tables, accepted_tables, verdict_plain}
-use Rattle.table.proofs.Passes.{then_no}
+use Rattle.table.proofs.Passes.{then_no, then_on}
 use Rattle.reader.specs.Read.{Holds, read_over, over_zeros}
 use Rattle.names.specs.Trees.{names_in}
 use Rattle.table.proofs.Passes.{accepts, refuses, outcome_on, outcome_no}
@@ -77,7 +77,7 @@ lines_clear s (suc left) line at c t =
     (λ z. line_clear (lines_from s left (line + 1)) line (line_at s at c t) (lines_clear s left (line + 1)))
     (λ z. by_when Clear (eqb c.part 0) _ _ (λ y h. refl) (λ y h. absurd (h refl)))
 
-text_clear : (s : List ℕ) → Clear (read_text s)
+pub text_clear : (s : List ℕ) → Clear (read_text s)
 unfolding read_text
 text_clear s = by_when Clear (ltb limits.bytes (length s)) _ _ (λ z h. refl) (λ z. lines_clear s (most_lines + 1) 1 0 nothing zeros)
 
@@ -92,6 +92,13 @@ unfolding verdict case_of
 passed s a t e z h =
     let p : (checked s).verdict ≡ accepted = verdict_plain s (subst (λ (x : Answer). x.number ≡ 0) (sym e) z) in
     record { answer = sym (ap case_of p); tables = h ∙ sym (accepted_tables s p) }
+
+-- what is read and judged as a program that refuses nothing is accepted
+pub case_passed : (s : List ℕ) → (read_text s).answer.number ≡ 0 → (check (program (read_text s).tables)).number ≡ 0 → case_of (check (program (read_text s).tables)) ≡ C.Accepted
+unfolding verdict checked case_of
+case_passed s a z =
+    let e : verdict s ≡ check (program (read_text s).tables) = then_on (read_text s).answer _ a in
+    ap case_of (sym e ∙ verdict_plain s (subst (λ (x : Answer). x.number ≡ 0) (sym e) z))
 
 -- ---- a text, read over tables that hold nothing
 

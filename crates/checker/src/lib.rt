@@ -22,6 +22,7 @@ fn program_judged(t: &Tables) -> Result<(), Answer>
 }
 
 // The answer to a glue text, for tables that are all 0: the program is in them if it is accepted, and on a refusal they are all 0 again.
+#[tactic(auto, using(reader::specs::Read::over_zeros, crate::proofs::Laws::text_clear, crate::proofs::Laws::case_passed), unfolding(rules::specs::Check::checked))]
 fn judged(s: &[u8], t: &mut Tables) -> Verdict
     requires { t.old ≡ zeros }
     ensures { Says (checked s.now) result t.new }

@@ -42,6 +42,9 @@ module _ (Z : List ℕ) where
   pub vars_small : (D : List ℕ) → length (vars_from Z D) ≤ 32
   vars_small D = rw (var_count D) (up_to_le 32 _)
 
+  pub labels_small : (L : List ℕ) → length (labels_from Z L) ≤ 64
+  labels_small L = rw (label_count L) (up_to_le 64 _)
+
   pub lines_small : (N B : List ℕ) → length (body_from Z N B) ≤ 512
   lines_small N B = rw (line_count N B) (up_to_le 512 _)
 
@@ -98,6 +101,10 @@ module _ (Z R : List ℕ) (r : ℕ) where
   pub prods_small : prods_of (rows_from Z R) r ≤ 16
   prods_small = small_by (dec_lt r (length (rows_from Z R)))
 
+  -- no row past the limit has products
+  pub prods_beyond : limits.rows ≤ r → prods_of (rows_from Z R) r ≡ 0
+  prods_beyond h = prods_out (rows_from Z R) r (omega (lin, h, rows_small Z R))
+
   module _ (t : ℕ) where
     pub product_in : t < prods_of (rows_from Z R) r → get_or (row_at (rows_from Z R) r).products t [] ≡ product_from R r t
     product_in h =
@@ -114,6 +121,9 @@ module _ (Z R : List ℕ) (r : ℕ) where
 
     pub fields_small : fields_of (rows_from Z R) r t ≤ 16
     fields_small = fields_by (dec_lt t (prods_of (rows_from Z R) r))
+
+    pub fields_beyond : limits.rows ≤ r → fields_of (rows_from Z R) r t ≡ 0
+    fields_beyond h = let z = prods_beyond h in fields_out (rows_from Z R) r t (omega (lin, z))
 
     pub field_in : (o : ℕ) → o < fields_of (rows_from Z R) r t → field_of (rows_from Z R) r t o ≡ cell R row_width r (18 + t * 16 + o)
     unfolding field_of product_from

@@ -89,7 +89,7 @@ fn psi_code(c: u32) -> Psi
     }
 }
 
-#[tactic(auto, using(rules::proofs::Sound::Expr::psi_absent, crate::proofs::Laws::psi_in, table::proofs::Laws::above, table::proofs::Laws::below))]
+#[tactic(auto, using(rules::proofs::Sound::Expr::psi_absent, crate::proofs::Laws::psi_in, table::proofs::Laws::above, table::proofs::Laws::below, crate::proofs::Laws::rows_small))]
 pub fn psi_of(size: &[u32; 6], rows: &[u32; 17536], r: usize) -> Psi
     ensures { result ≡ psi_of (rows_from size.now rows.now) r }
 {
@@ -101,7 +101,7 @@ pub fn psi_of(size: &[u32; 6], rows: &[u32; 17536], r: usize) -> Psi
     }
 }
 
-#[tactic(auto, using(crate::proofs::Laws::prods_in, crate::proofs::Laws::prods_out, table::proofs::Laws::above, table::proofs::Laws::below))]
+#[tactic(auto, using(crate::proofs::Laws::prods_in, crate::proofs::Laws::prods_out, table::proofs::Laws::above, table::proofs::Laws::below, crate::proofs::Laws::rows_small))]
 pub fn prods_of(size: &[u32; 6], rows: &[u32; 17536], r: usize) -> usize
     ensures { result ≡ prods_of (rows_from size.now rows.now) r }
 {
@@ -113,7 +113,7 @@ pub fn prods_of(size: &[u32; 6], rows: &[u32; 17536], r: usize) -> usize
     }
 }
 
-#[tactic(auto, using(crate::proofs::Laws::fields_in, crate::proofs::Laws::fields_out, crate::proofs::Laws::prods_small, table::proofs::Laws::above, table::proofs::Laws::below))]
+#[tactic(auto, using(crate::proofs::Laws::fields_in, crate::proofs::Laws::fields_out, crate::proofs::Laws::prods_small, table::proofs::Laws::above, table::proofs::Laws::below, crate::proofs::Laws::prods_beyond))]
 pub fn fields_of(size: &[u32; 6], rows: &[u32; 17536], r: usize, t: usize) -> usize
     ensures { result ≡ fields_of (rows_from size.now rows.now) r t }
 {
@@ -125,7 +125,7 @@ pub fn fields_of(size: &[u32; 6], rows: &[u32; 17536], r: usize, t: usize) -> us
     }
 }
 
-#[tactic(auto, using(crate::proofs::Laws::field_in, crate::proofs::Laws::field_out, crate::proofs::Laws::field_small, table::proofs::Laws::above, table::proofs::Laws::below))]
+#[tactic(auto, using(crate::proofs::Laws::field_in, crate::proofs::Laws::field_out, crate::proofs::Laws::field_small, table::proofs::Laws::above, table::proofs::Laws::below, crate::proofs::Laws::fields_beyond))]
 pub fn field_of(size: &[u32; 6], rows: &[u32; 17536], r: usize, t: usize, o: usize) -> usize
     ensures { result ≡ field_of (rows_from size.now rows.now) r t o }
 {
@@ -150,7 +150,7 @@ fn kind_code(c: u32) -> Kind
     }
 }
 
-#[tactic(auto, using(crate::proofs::Laws::kind_in, crate::proofs::Laws::kind_out, table::proofs::Laws::above, table::proofs::Laws::below))]
+#[tactic(auto, using(crate::proofs::Laws::kind_in, crate::proofs::Laws::kind_out, table::proofs::Laws::above, table::proofs::Laws::below, crate::proofs::Laws::vars_small))]
 pub fn kind_of(size: &[u32; 6], vars: &[u32; 96], v: usize) -> Kind
     ensures { result ≡ kind_at (vars_from size.now vars.now) v }
 {
@@ -162,7 +162,7 @@ pub fn kind_of(size: &[u32; 6], vars: &[u32; 96], v: usize) -> Kind
     }
 }
 
-#[tactic(auto, using(crate::proofs::Laws::var_in, crate::proofs::Laws::var_out, table::proofs::Laws::above, table::proofs::Laws::below), unfolding(rules::specs::View::var_from))]
+#[tactic(auto, using(crate::proofs::Laws::var_in, crate::proofs::Laws::var_out, table::proofs::Laws::above, table::proofs::Laws::below, crate::proofs::Laws::vars_small), unfolding(rules::specs::View::var_from))]
 pub fn is_local(size: &[u32; 6], vars: &[u32; 96], v: usize) -> bool
     ensures { result ≡ (get_or (vars_from size.now vars.now) v no_var).is_local }
 {
@@ -174,7 +174,7 @@ pub fn is_local(size: &[u32; 6], vars: &[u32; 96], v: usize) -> bool
     }
 }
 
-#[tactic(auto, using(crate::proofs::Laws::var_in, crate::proofs::Laws::var_out, table::proofs::Laws::above, table::proofs::Laws::below), unfolding(rules::specs::View::var_from))]
+#[tactic(auto, using(crate::proofs::Laws::var_in, crate::proofs::Laws::var_out, table::proofs::Laws::above, table::proofs::Laws::below, crate::proofs::Laws::vars_small), unfolding(rules::specs::View::var_from))]
 pub fn local_number(size: &[u32; 6], vars: &[u32; 96], v: usize) -> Num
     ensures { result ≡ (get_or (vars_from size.now vars.now) v no_var).number }
 {
@@ -216,7 +216,7 @@ fn no_entry() -> Entry
     }
 }
 
-#[tactic(auto, using(crate::proofs::Laws::label_line_in, crate::proofs::Laws::label_out, table::proofs::Laws::above, table::proofs::Laws::below))]
+#[tactic(auto, using(crate::proofs::Laws::label_line_in, crate::proofs::Laws::label_out, table::proofs::Laws::above, table::proofs::Laws::below, crate::proofs::Laws::labels_small))]
 pub fn label_line(size: &[u32; 6], labels: &[u64; 6208], l: usize) -> usize
     ensures { result ≡ (label_at (labels_from size.now labels.now) l).line }
 {

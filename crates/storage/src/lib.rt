@@ -65,6 +65,7 @@ pub fn cell_count(size: &[u32; 2], heads: &[u32; 768], b: usize) -> usize
     }
 }
 
+#[tactic(auto, using(crate::proofs::Laws::cells_in_lem))]
 pub fn is_inside(size: &[u32; 2], heads: &[u32; 768], b: usize, o: usize) -> bool
     ensures { (C : List ℕ) → result ≡ inside (store_of size.now heads.now C) b o }
 {
